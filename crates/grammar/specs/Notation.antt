@@ -2,7 +2,7 @@
 use mathlib.Core.List.{List, [], _∷_, map, _++_}
 use Prim.Native.Nat.{ℕ}
 use lib.Chars.{codes}
-use Rattle.tokens.specs.Vocabulary.{quoted}
+use Rattle.lexer.specs.Vocabulary.{quoted}
 
 abbrev pub notation-kinds : List (List ℕ)
 notation-kinds =

@@ -3,7 +3,7 @@ ghost use mathlib.Core.Path.{_≡_};
 ghost use mathlib.Core.List.{map};
 ghost use Rattle.std.specs.declared.option.Option.the-variants.{Some};
 ghost use Rattle.grammar.specs.Notation.{notation-kinds};
-ghost use Rattle.tokens.specs.Vocabulary.{lexicon};
+ghost use Rattle.lexer.specs.Vocabulary.{lexicon};
 use tokens::Spelling;
 use tokens::Vocabulary;
 

@@ -12,17 +12,17 @@ use Rattle.std.proofs.shelf.Sums.{length-kept-by, countBy-le-length}
 use Rattle.std.proofs.shelf.Tests.{cases-eq, eq-eqb, ne-eqb, lt-ltb}
 use Rattle.kindset.specs.Member.{member}
 use Rattle.kindset.specs.declared.KindSet.{KindSet}
-use Rattle.tokens.specs.Laws.{Tiles, Ends, Well-cut}
+use Rattle.scanning.proofs.Cuts.{few-tokens}
 use Rattle.tokens.specs.Layer.{keeps, without}
 use Rattle.tokens.specs.Layered.{seen, layered-tokens, layered-ending, Layered}
 use Rattle.tokens.specs.Meaning.{text-tokens, text-ending, Scans}
-use Rattle.tokens.specs.Sources.{ending-place}
-use Rattle.tokens.specs.Vocabulary.{Lexicon}
+use Rattle.scanning.specs.Scan.{ending-place}
+use Rattle.lexer.specs.Vocabulary.{Lexicon}
 use Rattle.tokens.specs.declared.skipping.Skipping.{Skipping}
 use Rattle.tokens.specs.declared.text.TextSource.{TextSource}
-use Rattle.tokens.specs.declared.token.Ending.{Ending}
-use Rattle.tokens.specs.declared.token.Ending.the-variants.{End, Fault}
-use Rattle.tokens.specs.declared.token.Token.{Token}
+use Rattle.lexer.specs.declared.token.Ending.{Ending}
+use Rattle.lexer.specs.declared.token.Ending.the-variants.{End, Fault}
+use Rattle.lexer.specs.declared.token.Token.{Token}
 
 -- filters that agree on every element keep the same
 pub kept-alike : {X : Type 0} (p q : X → Bool) → ((x : X) → p x ≡ q x) → (xs : List X) → kept-by p xs ≡ kept-by q xs
@@ -31,18 +31,6 @@ kept-alike p q same (x ∷ xs) = ap (λ b. cond b (x ∷ kept-by p xs) (kept-by 
 
 pub few-kept : {X : Type 0} (p : X → Bool) (xs : List X) → length (kept-by p xs) ≤ length xs
 few-kept p xs = omega (arith, length-kept-by p xs, countBy-le-length p xs)
-
--- tokens that tile a text are no more than its bytes
-tiles-few : (ts : List Token) (from to : ℕ) → Tiles from ts to → from + length ts ≤ to
-tiles-few [] from to h = omega arith
-tiles-few (t ∷ ts) from to h = omega (arith, h .1, tiles-few ts (from + t .length) to (h .2))
-
-ends-within : (x : Lexicon) (bs : List ℕ) (e : Ending) → Ends x bs e → ending-place e ≤ length bs
-ends-within x bs (End p) h = omega arith
-ends-within x bs (Fault f) h = omega (arith, h .0)
-
-pub few-tokens : (x : Lexicon) (bs : List ℕ) (ts : List Token) (e : Ending) → Well-cut x bs ts e → length ts ≤ length bs
-few-tokens x bs ts e cut = omega (arith, tiles-few ts 0 (ending-place e) (cut .tiles), ends-within x bs e (cut .ends))
 
 -- a kind below 128 among others
 pub below-128 : (k m : ℕ) → m < 128 → (ltb k 128 && eqb k m) ≡ eqb k m

@@ -9,10 +9,10 @@ use Rattle.kindset.specs.declared.KindSet.{KindSet}
 use Rattle.std.specs.shelf.Lists.{All, kept-by}
 use Rattle.std.proofs.shelf.Elements.{all-kept-by}
 use Rattle.tokens.specs.Held.{held-token, with-held}
-use Rattle.tokens.specs.Sources.{Kind-fits}
+use Rattle.scanning.specs.Scan.{Kind-fits}
 use Rattle.tokens.specs.declared.held.Held.{Held}
 use Rattle.tokens.specs.declared.held.Held.the-variants as held-is
-use Rattle.tokens.specs.declared.token.Token.{Token}
+use Rattle.lexer.specs.declared.token.Token.{Token}
 
 -- a token is kept whose kind is not skipped
 abbrev pub keeps : KindSet → Token → Bool

@@ -9,12 +9,12 @@ use Rattle.std.specs.shelf.Lists.{kept-by}
 use Rattle.tokens.specs.Held.{with-held, held-ending}
 use Rattle.tokens.specs.Layer.{without}
 use Rattle.tokens.specs.Meaning.{text-tokens, text-ending}
-use Rattle.tokens.specs.Scan.{scan}
-use Rattle.tokens.specs.Vocabulary.{Lexicon}
+use Rattle.scanning.specs.Scan.{scan}
+use Rattle.lexer.specs.Vocabulary.{Lexicon}
 use Rattle.tokens.specs.declared.skipping.Skipping.{Skipping}
 use Rattle.tokens.specs.declared.text.TextSource.{TextSource}
-use Rattle.tokens.specs.declared.token.Ending.{Ending}
-use Rattle.tokens.specs.declared.token.Token.{Token}
+use Rattle.lexer.specs.declared.token.Ending.{Ending}
+use Rattle.lexer.specs.declared.token.Token.{Token}
 
 -- a token that is neither a blank nor a comment
 abbrev pub seen : Token → Bool

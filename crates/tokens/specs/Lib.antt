@@ -1,14 +1,7 @@
-pub mod Bytes
 pub mod Held
-pub mod Laws
 pub mod Layer
 pub mod Layered
-pub mod Lexeme
 pub mod Listed
 pub mod Meaning
-pub mod Parts
-pub mod Ranges
 pub mod Refusals
-pub mod Scan
 pub mod Sources
-pub mod Vocabulary

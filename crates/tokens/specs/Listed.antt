@@ -7,11 +7,11 @@ use lib.Dec.{leb}
 use lib.ListN.{length, getD}
 use Rattle.std.specs.shelf.Lists.{All}
 use Rattle.std.proofs.shelf.Tests.{cond-both, and-parts, leb-true}
-use Rattle.tokens.specs.Sources.{Kind-fits}
-use Rattle.tokens.specs.declared.token.Ending.{Ending}
-use Rattle.tokens.specs.declared.token.Ending.the-variants.{End, Fault}
-use Rattle.tokens.specs.declared.token.FaultCode.the-variants.{OutOfRange}
-use Rattle.tokens.specs.declared.token.Token.{Token}
+use Rattle.scanning.specs.Scan.{Kind-fits}
+use Rattle.lexer.specs.declared.token.Ending.{Ending}
+use Rattle.lexer.specs.declared.token.Ending.the-variants.{End, Fault}
+use Rattle.lexer.specs.declared.token.FaultCode.the-variants.{OutOfRange}
+use Rattle.lexer.specs.declared.token.Token.{Token}
 
 abbrev pub is-kind : ℕ → Bool
 is-kind k = leb 1 k && leb k 122

@@ -5,17 +5,17 @@ use Prim.Native.Nat.{ℕ, _≤_}
 use lib.ListN.{length, drop}
 use Rattle.std.specs.shelf.Lists.{All}
 use Rattle.tokens.specs.Held.{with-held, held-ending}
-use Rattle.tokens.specs.Laws.{Well-cut}
+use Rattle.scanning.specs.Laws.{Well-cut, Only-cut}
 use Rattle.tokens.specs.Layer.{held-kinds}
 use Rattle.tokens.specs.Listed.{listed, listed-ending, Well-listed}
-use Rattle.tokens.specs.Ranges.{scan-kinds}
-use Rattle.tokens.specs.Scan.{Scan, scan, scan-from}
-use Rattle.tokens.specs.Sources.{Kind-fits}
-use Rattle.tokens.specs.Vocabulary.{Lexicon, lexicon}
+use Rattle.scanning.specs.Ranges.{scan-kinds}
+use Rattle.scanning.specs.Scan.{Scan, scan, scan-from}
+use Rattle.scanning.specs.Scan.{Kind-fits}
+use Rattle.lexer.specs.Vocabulary.{Lexicon, lexicon}
 use Rattle.tokens.specs.declared.list.ListSource.{ListSource}
 use Rattle.tokens.specs.declared.text.TextSource.{TextSource}
-use Rattle.tokens.specs.declared.token.Ending.{Ending}
-use Rattle.tokens.specs.declared.token.Token.{Token}
+use Rattle.lexer.specs.declared.token.Ending.{Ending}
+use Rattle.lexer.specs.declared.token.Token.{Token}
 
 abbrev pub list-tokens : ListSource → List Token
 list-tokens s = listed (s .place) (drop (s .place) (s .kinds .now))
@@ -40,13 +40,15 @@ text-tokens s = with-held (s .ahead .held) (unlexed s .tokens)
 abbrev pub text-ending : TextSource → Ending
 text-ending s = held-ending (s .ahead .held) (unlexed s .ending)
 
--- the source of a text as it is made: it means the text's scan, which is well cut
+-- the source of a text as it is made: it means the text's scan, which is the one list of tokens and the one
+-- ending that cut the text well
 pub record Scans (x : Lexicon) (text : List ℕ) (s : TextSource) : Type 0 where
   pub short : length text ≤ 32768
   pub tokens : text-tokens s ≡ scan x text .tokens
   pub ending : text-ending s ≡ scan x text .ending
   pub input : s .text .now ≡ text
   pub law : Well-cut x text (text-tokens s) (text-ending s)
+  pub only : Only-cut x text (text-tokens s) (text-ending s)
 
 -- the law of kinds, for the text source
 pub text-kinds : (s : TextSource) → All Kind-fits (text-tokens s)

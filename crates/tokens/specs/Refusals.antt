@@ -1,12 +1,10 @@
--- The numbers of refusals and faults, with their values.
+-- The numbers of refusals, with their values.
 use mathlib.Core.List.{List, [], _∷_}
 use mathlib.Core.Path.{_≡_}
 use Prim.Native.Nat.{ℕ, _<_}
 use lib.ListN.{length}
 use Rattle.tokens.specs.declared.refusal.NothingLeft.{NothingLeft}
 use Rattle.tokens.specs.declared.refusal.TooLong.{TooLong}
-use Rattle.tokens.specs.declared.token.FaultCode.{FaultCode}
-use Rattle.tokens.specs.declared.token.FaultCode.the-variants.{BeginsNothing, Unclosed, Oversized, NoKind, OutOfRange}
 
 abbrev pub too-long : TooLong → List ℕ
 too-long r = 1 ∷ r .limit ∷ []
@@ -17,10 +15,3 @@ Too-long text r = (32768 < length text) × (too-long r ≡ 1 ∷ 32768 ∷ [])
 
 abbrev pub nothing-left : NothingLeft → List ℕ
 nothing-left r = 25 ∷ r .place ∷ []
-
-abbrev pub fault-number : FaultCode → ℕ
-fault-number BeginsNothing = 1
-fault-number Unclosed = 2
-fault-number Oversized = 3
-fault-number NoKind = 4
-fault-number OutOfRange = 5

@@ -1,21 +1,18 @@
 -- What a source answers, by its tokens to come and its ending.
 use mathlib.Core.Path.{_≡_}
 use mathlib.Core.List.{List, [], _∷_}
-use Prim.Native.Nat.{ℕ, _≤_}
+use Prim.Native.Nat.{ℕ}
 use Rattle.std.specs.declared.result.Result.{Result}
 use Rattle.std.specs.declared.result.Result.the-variants.{Ok, Err}
+use Rattle.scanning.specs.Scan.{ending-place}
 use Rattle.tokens.specs.Refusals.{nothing-left}
 use Rattle.tokens.specs.declared.refusal.NothingLeft.{NothingLeft}
-use Rattle.tokens.specs.declared.token.Ending.{Ending}
-use Rattle.tokens.specs.declared.token.Ending.the-variants as ending-is
-use Rattle.tokens.specs.declared.token.Fault.{Fault}
-use Rattle.tokens.specs.declared.token.Next.{Next}
-use Rattle.tokens.specs.declared.token.Next.the-variants as next-is
-use Rattle.tokens.specs.declared.token.Token.{Token}
-
-abbrev pub ending-place : Ending → ℕ
-ending-place (ending-is.End p) = p
-ending-place (ending-is.Fault f) = f .place
+use Rattle.lexer.specs.declared.token.Ending.{Ending}
+use Rattle.lexer.specs.declared.token.Ending.the-variants as ending-is
+use Rattle.lexer.specs.declared.token.Fault.{Fault}
+use Rattle.lexer.specs.declared.token.Next.{Next}
+use Rattle.lexer.specs.declared.token.Next.the-variants as next-is
+use Rattle.lexer.specs.declared.token.Token.{Token}
 
 abbrev pub at-ending : Ending → Result Next Fault
 at-ending (ending-is.End p) = Ok (next-is.End p)
@@ -45,7 +42,3 @@ left (t ∷ ts) = ts
 abbrev pub Same-if-none : {S : Type 0} → List Token → S → S → Type 0
 Same-if-none [] s s′ = s ≡ s′
 Same-if-none (t ∷ ts) s s′ = Unit {0}
-
--- a token's kind is one of 1 to 122
-abbrev pub Kind-fits : Token → Type 0
-Kind-fits t = (1 ≤ t .kind) × (t .kind ≤ 122)

@@ -1,10 +1,10 @@
 // What a source keeps ready, so that a look costs nothing.
 ghost use mathlib.Core.Path.{_≡_};
 ghost use Rattle.tokens.specs.Held.{held-token, shown, Next-fits};
-ghost use Rattle.tokens.specs.Sources.{Kind-fits};
-use crate::token::Fault;
-use crate::token::Next;
-use crate::token::Token;
+ghost use Rattle.scanning.specs.Scan.{Kind-fits};
+use lexer::Fault;
+use lexer::Next;
+use lexer::Token;
 
 // How many kinds there are.
 const KINDS: u8 = 122;

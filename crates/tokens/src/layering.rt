@@ -7,14 +7,14 @@ ghost use Rattle.kindset.specs.Member.{member};
 ghost use Rattle.std.specs.Results.{Cases};
 ghost use Rattle.tokens.specs.Layered.{Layered};
 ghost use Rattle.tokens.specs.Refusals.{Too-long};
-ghost use Rattle.tokens.specs.Vocabulary.{lexicon};
-use crate::lexeme::BLANK;
-use crate::lexeme::COMMENT;
+ghost use Rattle.lexer.specs.Vocabulary.{lexicon};
+use lexer::BLANK;
+use lexer::COMMENT;
 use crate::refusal::TooLong;
 use crate::skipping::Skipping;
 use crate::text::TextSource;
 use crate::text::TextTokens;
-use crate::vocabulary::Vocabulary;
+use lexer::Vocabulary;
 use kindset::KindSet;
 
 // The kinds of blanks and comments.

@@ -6,10 +6,10 @@ ghost use Rattle.tokens.specs.Listed.{is-kind, listed-kinds};
 ghost use Rattle.tokens.specs.Meaning.{list-tokens, list-ending, Lists};
 use crate::refusal::NothingLeft;
 use crate::source::TokenSource;
-use crate::token::Fault;
-use crate::token::FaultCode;
-use crate::token::Next;
-use crate::token::Token;
+use lexer::Fault;
+use lexer::FaultCode;
+use lexer::Next;
+use lexer::Token;
 
 // A table of kinds, read from a place on. A token's place is its index and its length is 1.
 #[derive(Drop)]

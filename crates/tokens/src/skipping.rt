@@ -6,9 +6,9 @@ use crate::held::Held;
 use crate::refusal::NothingLeft;
 use crate::source::TokenSource;
 use crate::source::WithText;
-use crate::token::Fault;
-use crate::token::Next;
-use crate::token::Token;
+use lexer::Fault;
+use lexer::Next;
+use lexer::Token;
 use kindset::KindSet;
 
 // A source whose list is that of the inner source without the skipped kinds, with the same

@@ -4,14 +4,15 @@ ghost use mathlib.Core.List.{List};
 ghost use Prim.Native.Nat.{ℕ};
 ghost use Rattle.std.specs.Options.{mapped};
 ghost use Rattle.std.specs.shelf.Lists.{All};
-ghost use Rattle.tokens.specs.Sources.{looked, taken, told, left, Same-if-none, Kind-fits};
-ghost use Rattle.tokens.specs.Parts.{part-of};
-ghost use Rattle.tokens.specs.declared.token.Token.{Token as TokenOf};
-ghost use Rattle.tokens.specs.declared.token.Ending.{Ending as EndingOf};
+ghost use Rattle.scanning.specs.Scan.{Kind-fits};
+ghost use Rattle.tokens.specs.Sources.{looked, taken, told, left, Same-if-none};
+ghost use Rattle.lexer.specs.Parts.{part-of};
+ghost use Rattle.lexer.specs.declared.token.Token.{Token as TokenOf};
+ghost use Rattle.lexer.specs.declared.token.Ending.{Ending as EndingOf};
 use crate::refusal::NothingLeft;
-use crate::token::Fault;
-use crate::token::Next;
-use crate::token::Token;
+use lexer::Fault;
+use lexer::Next;
+use lexer::Token;
 
 // A finite list of tokens to come, and an ending.
 pub trait TokenSource {

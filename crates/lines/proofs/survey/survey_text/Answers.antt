@@ -5,9 +5,9 @@ use Rattle.std.specs.shelf.Lists.{kept-by}
 use Rattle.lines.specs.Lines.{survey-of}
 use Rattle.lines.specs.declared.survey.Survey.{Survey}
 use Rattle.tokens.specs.Layered.{seen}
-use Rattle.tokens.specs.Scan.{scan}
-use Rattle.tokens.specs.declared.token.Ending.{Ending}
-use Rattle.tokens.specs.declared.token.Token.{Token}
+use Rattle.scanning.specs.Scan.{scan}
+use Rattle.lexer.specs.declared.token.Ending.{Ending}
+use Rattle.lexer.specs.declared.token.Token.{Token}
 use Rattle.lines.proofs.survey.survey_text.Needs as need
 
 same-survey : (s : Survey) (ts us : List Token) (e f : Ending) → s ≡ survey-of ts e → ts ≡ us → e ≡ f → s ≡ survey-of us f

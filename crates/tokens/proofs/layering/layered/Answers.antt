@@ -1,4 +1,4 @@
-use Rattle.tokens.specs.Vocabulary.{lexicon}
+use Rattle.lexer.specs.Vocabulary.{lexicon}
 use Rattle.tokens.proofs.Layers.{over-text}
 use Rattle.tokens.proofs.layering.layered.Needs as need
 

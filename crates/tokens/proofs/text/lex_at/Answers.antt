@@ -1,9 +1,9 @@
 use mathlib.Core.Path.{sym, ap}
 use native.Mathlib.Omega.{arith}
 use Rattle.std.proofs.shelf.Lists.{drop-all}
-use Rattle.tokens.specs.Scan.{scan-from}
-use Rattle.tokens.specs.Vocabulary.{lexicon}
-use Rattle.tokens.proofs.Cuts.{scan-token, scan-fault}
+use Rattle.scanning.specs.Scan.{scan-from}
+use Rattle.lexer.specs.Vocabulary.{lexicon}
+use Rattle.scanning.proofs.Cuts.{scan-token, scan-fault}
 use Rattle.tokens.proofs.text.lex_at.Needs as need
 
 pub returns-then-place-text : need.returns-then-place-text
