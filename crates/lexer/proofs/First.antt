@@ -12,11 +12,9 @@ use Rattle.std.specs.Orderings.{Decides}
 use Rattle.std.specs.declared.option.Option.{Option}
 use Rattle.std.specs.declared.option.Option.the-variants.{Some, None}
 use Rattle.std.proofs.shelf.Equals.{sameBytes-decides}
-use Rattle.std.proofs.shelf.Lists.{getD-past, getD-map, length-map}
+use Rattle.std.proofs.shelf.Lists.{getD-past}
 use Rattle.std.proofs.shelf.Tests.{cases-lt, cond-both, cond-true, cond-false, and-from, and-parts, le-leb, leb-true, false≢true, both-ways}
-use Rattle.lexer.specs.Vocabulary.{Lexicon, lexicon, spelled, reads, first-from, kind-of, written-as, Names}
-use Rattle.lexer.specs.declared.vocabulary.Spelling.{Spelling}
-use Rattle.lexer.specs.declared.vocabulary.Vocabulary.{Vocabulary}
+use Rattle.lexer.specs.Vocabulary.{Lexicon, reads, first-from, kind-of, written-as, Names}
 
 module _ {X : Type 0} (p : X → Bool) (d : X) where
   -- what a search that counts from j finds
@@ -81,18 +79,3 @@ module _ (x : Lexicon) (w : List ℕ) where
 
   pub kind-names : Names x w (kind-of x w)
   kind-names = named-by (kind-of x w) (first-finds (λ o. reads o w) None (take 120 x) 1)
-
-module _ (v : Vocabulary) (k : ℕ) where
-  pub such-kind : (d : Spelling) → 1 ≤ k → k ≤ 120 → k ≤ length (v .kinds .now) → spelled (v .text .now) (getD (v .kinds .now) (k - 1) d) ≡ written-as (lexicon v) k
-  such-kind d low high within =
-      sym (cond-true (leb 1 k && leb k 120) (getD (lexicon v) (k - 1) None) None (and-from (leb 1 k) (leb k 120) (le-leb 1 k low) (le-leb k 120 high)) ∙ getD-map (spelled (v .text .now)) (v .kinds .now) (k - 1) d None (omega arith))
-
-  pub no-such-kind : ((1 ≤ k) → (k ≤ 120) → length (v .kinds .now) < k) → None ≡ written-as (lexicon v) k
-  no-such-kind out =
-      cond-both (leb 1 k && leb k 120) (getD (lexicon v) (k - 1) None) None (λ o. None ≡ o)
-      (λ fits.
-      let parts = and-parts (leb 1 k) (leb k 120) fits in
-      let low = leb-true 1 k (parts .0) in
-      let past = out low (leb-true k 120 (parts .1)) in
-      sym (getD-past (lexicon v) (k - 1) None (omega (arith, length-map (v .kinds .now) (spelled (v .text .now))))))
-      (λ other. refl)

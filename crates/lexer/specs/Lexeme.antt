@@ -16,8 +16,8 @@ use Rattle.lexer.specs.Vocabulary.{Lexicon, kind-of, quoted}
 use Rattle.lexer.specs.declared.bytes.ByteClass.{ByteClass}
 use Rattle.lexer.specs.declared.bytes.ByteClass.the-variants as class-is
 use Rattle.lexer.specs.declared.lexeme.Lexeme.{Lexeme}
-use Rattle.lexer.specs.declared.token.FaultCode.{FaultCode}
-use Rattle.lexer.specs.declared.token.FaultCode.the-variants.{BeginsNothing, Unclosed, Oversized, NoKind}
+use Rattle.token.specs.declared.token.FaultCode.{FaultCode}
+use Rattle.token.specs.declared.token.FaultCode.the-variants.{BeginsNothing, Unclosed, Oversized, NoKind}
 
 abbrev pub named : ℕ → Option ℕ → Result Lexeme FaultCode
 named n None = Err NoKind

@@ -9,9 +9,9 @@ use crate::bytes::Run;
 use crate::bytes::class_of;
 use crate::bytes::is_sign;
 use crate::bytes::run_length;
-use crate::token::FaultCode;
 use crate::vocabulary::Sought;
 use crate::vocabulary::Vocabulary;
+use token::FaultCode;
 
 // The kinds that no grammar gives.
 pub const BLANK: u8 = 121;

@@ -1,7 +1,6 @@
-// One token at a time: what tokens are, a grammar's vocabulary, and the token at the front of a text.
+// A grammar's vocabulary, and the token at the front of a text.
 mod bytes;
 mod lexeme;
-mod token;
 mod vocabulary;
 
 pub use bytes::ByteClass;
@@ -9,21 +8,6 @@ pub use lexeme::BLANK;
 pub use lexeme::COMMENT;
 pub use lexeme::Lexeme;
 pub use lexeme::lex;
-pub use token::Ending;
-pub use token::EndingDebug;
-pub use token::EndingPartialEq;
-pub use token::Fault;
-pub use token::FaultCode;
-pub use token::FaultCodeDebug;
-pub use token::FaultCodePartialEq;
-pub use token::FaultDebug;
-pub use token::FaultPartialEq;
-pub use token::Next;
-pub use token::NextDebug;
-pub use token::NextPartialEq;
-pub use token::Token;
-pub use token::TokenDebug;
-pub use token::TokenPartialEq;
 pub use vocabulary::Sought;
 pub use vocabulary::Spelling;
 pub use vocabulary::SpellingDebug;

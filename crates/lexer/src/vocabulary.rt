@@ -5,7 +5,7 @@ ghost use lib.ListN.{length as size};
 ghost use Rattle.std.specs.Options.{mapped};
 ghost use Rattle.std.specs.shelf.Text.{sameBytes};
 ghost use Rattle.lexer.specs.Parts.{part-of};
-ghost use Rattle.lexer.specs.Vocabulary.{quoted, written, reads, spelled, lexicon, kind-of, Names, written-as};
+ghost use Rattle.lexer.specs.Vocabulary.{quoted, written, reads, spelled, lexicon, kind-of, Names};
 
 // How many kinds a grammar can have.
 const KINDS: usize = 120;
@@ -101,17 +101,5 @@ impl Vocabulary<'_, '_> {
             }
         }
         None
-    }
-
-    // How the grammar writes a kind, or none where it has no such kind.
-    pub fn spelling(&self, kind: u8) -> Option<&[u8]>
-        ensures { λ r. ⌜ mapped now r ≡ written-as (lexicon (now (self .entry))) kind ⌝ }
-    {
-        let number = kind as usize;
-        if number == 0 || number > KINDS || number > self.kinds.len() {
-            return None;
-        }
-        let entry = self.kinds[number - 1];
-        part(self.text, entry.place, entry.length)
     }
 }

@@ -12,12 +12,12 @@ use Rattle.std.specs.shelf.Lists.{kept-by}
 use Rattle.grammar.specs.Notation.{notation-kinds}
 use Rattle.lines.specs.declared.survey.Survey.{Survey}
 use Rattle.tokens.specs.Layered.{seen}
-use Rattle.lexer.specs.Faults.{fault-number}
+use Rattle.token.specs.Faults.{fault-number}
 use Rattle.scanning.specs.Scan.{scan}
-use Rattle.lexer.specs.declared.token.Ending.{Ending}
-use Rattle.lexer.specs.declared.token.Ending.the-variants.{End, Fault}
-use Rattle.lexer.specs.declared.token.Fault.{Fault as FaultOf}
-use Rattle.lexer.specs.declared.token.Token.{Token}
+use Rattle.token.specs.declared.token.Ending.{Ending}
+use Rattle.token.specs.declared.token.Ending.the-variants.{End, Fault}
+use Rattle.token.specs.declared.token.Fault.{Fault as FaultOf}
+use Rattle.token.specs.declared.token.Token.{Token}
 
 abbrev pub labelled : List ℕ → ℕ → List ℕ
 labelled words n = words ++ decimal n

@@ -4,7 +4,7 @@ ghost use Prim.Native.Nat.{_≤_};
 ghost use lib.ListN.{length};
 ghost use Rattle.std.specs.Results.{Cases};
 ghost use Rattle.lines.specs.Lines.{one-of, survey-of, Surveyed};
-ghost use Rattle.tokens.specs.Refusals.{Too-long};
+ghost use Rattle.token.specs.Refusals.{Too-long};
 use grammar::vocabulary;
 use tokens::Ending;
 use tokens::Next;

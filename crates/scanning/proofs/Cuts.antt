@@ -15,10 +15,10 @@ use Rattle.scanning.specs.Ranges.{Lexeme-fits, front-fits}
 use Rattle.scanning.specs.Scan.{ending-place, Scan, token-at, after-lexeme, scan-bytes, scan-from, scan}
 use Rattle.lexer.specs.Vocabulary.{Lexicon}
 use Rattle.lexer.specs.declared.lexeme.Lexeme.{Lexeme}
-use Rattle.lexer.specs.declared.token.Ending.{Ending}
-use Rattle.lexer.specs.declared.token.Ending.the-variants.{End, Fault}
-use Rattle.lexer.specs.declared.token.FaultCode.{FaultCode}
-use Rattle.lexer.specs.declared.token.Token.{Token}
+use Rattle.token.specs.declared.token.Ending.{Ending}
+use Rattle.token.specs.declared.token.Ending.the-variants.{End, Fault}
+use Rattle.token.specs.declared.token.FaultCode.{FaultCode}
+use Rattle.token.specs.declared.token.Token.{Token}
 use Rattle.scanning.proofs.Stood.{Found, front-found}
 
 -- the bytes of the token before are stepped over

@@ -25,8 +25,8 @@ use Rattle.lexer.specs.Vocabulary.{Lexicon, kind-of, quoted}
 use Rattle.lexer.specs.declared.bytes.ByteClass.{ByteClass}
 use Rattle.lexer.specs.declared.bytes.ByteClass.the-variants as class-is
 use Rattle.lexer.specs.declared.lexeme.Lexeme.{Lexeme}
-use Rattle.lexer.specs.declared.token.FaultCode.{FaultCode}
-use Rattle.lexer.specs.declared.token.FaultCode.the-variants.{BeginsNothing, Unclosed, Oversized, NoKind}
+use Rattle.token.specs.declared.token.FaultCode.{FaultCode}
+use Rattle.token.specs.declared.token.FaultCode.the-variants.{BeginsNothing, Unclosed, Oversized, NoKind}
 use Rattle.scanning.specs.Laws.{Longest, Closed, Open-string, Word-kind, spelt, not-spelt, Asked, word, number, string, pair, single, Stands, blanks, comment, asked, Begins-nothing, Faulty, begins-nothing, unclosed, too-long, no-kind}
 use Rattle.scanning.proofs.Runs.{leading-all, leading-stops}
 
@@ -89,8 +89,8 @@ run-is : (p : ℕ → Bool) (bs : List ℕ) (n : ℕ) → n ≤ length bs → ((
 run-is p bs n within all stops =
     ⊎-elim (λ same. same)
     (⊎-elim
-      (λ less. absurd (both-ways (p (getD bs (leading p bs) 0)) (leading-stops p bs (omega arith)) (all (leading p bs) less)))
-      (λ more. absurd (both-ways (p (getD bs n 0)) (stops (omega (arith, leading-le-length p bs))) (leading-all p bs n more))))
+    (λ less. absurd (both-ways (p (getD bs (leading p bs) 0)) (leading-stops p bs (omega arith)) (all (leading p bs) less)))
+    (λ more. absurd (both-ways (p (getD bs n 0)) (stops (omega (arith, leading-le-length p bs))) (leading-all p bs n more))))
     (cases-order (leading p bs) n)
 
 longest-is : (p : ℕ → Bool) (bs : List ℕ) (n : ℕ) → Longest p bs n → leading p bs ≡ n

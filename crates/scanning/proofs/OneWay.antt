@@ -12,10 +12,10 @@ use Rattle.std.proofs.shelf.Tests.{cases-lt}
 use Rattle.lexer.specs.Lexeme.{front}
 use Rattle.lexer.specs.Vocabulary.{Lexicon}
 use Rattle.lexer.specs.declared.lexeme.Lexeme.{Lexeme}
-use Rattle.lexer.specs.declared.token.Ending.{Ending}
-use Rattle.lexer.specs.declared.token.Ending.the-variants.{End, Fault}
-use Rattle.lexer.specs.declared.token.FaultCode.{FaultCode}
-use Rattle.lexer.specs.declared.token.Token.{Token}
+use Rattle.token.specs.declared.token.Ending.{Ending}
+use Rattle.token.specs.declared.token.Ending.the-variants.{End, Fault}
+use Rattle.token.specs.declared.token.FaultCode.{FaultCode}
+use Rattle.token.specs.declared.token.Token.{Token}
 use Rattle.scanning.specs.Laws.{Stands, Faulty, Tiles, Ends, Well-cut, Only-cut}
 use Rattle.scanning.specs.Scan.{ending-place, token-at, scan-from, scan}
 use Rattle.scanning.proofs.Cuts.{scan-token-at, scan-fault-at}

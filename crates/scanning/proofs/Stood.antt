@@ -25,7 +25,7 @@ use Rattle.lexer.specs.Vocabulary.{Lexicon, kind-of, quoted}
 use Rattle.lexer.specs.declared.bytes.ByteClass.{ByteClass}
 use Rattle.lexer.specs.declared.bytes.ByteClass.the-variants as class-is
 use Rattle.lexer.specs.declared.lexeme.Lexeme.{Lexeme}
-use Rattle.lexer.specs.declared.token.FaultCode.{FaultCode}
+use Rattle.token.specs.declared.token.FaultCode.{FaultCode}
 use Rattle.scanning.proofs.Runs.{leading-all, leading-stops, longest}
 
 -- what a byte's class says of the byte

@@ -14,11 +14,11 @@ use Rattle.std.specs.shelf.Lists.{All}
 use Rattle.lexer.specs.Bytes.{blank, sign, in-word, in-comment, in-string, quote, hash, newline}
 use Rattle.scanning.specs.Scan.{ending-place}
 use Rattle.lexer.specs.Vocabulary.{Lexicon, kind-of, quoted}
-use Rattle.lexer.specs.declared.token.Ending.{Ending}
-use Rattle.lexer.specs.declared.token.Ending.the-variants.{End, Fault}
-use Rattle.lexer.specs.declared.token.FaultCode.{FaultCode}
-use Rattle.lexer.specs.declared.token.FaultCode.the-variants.{BeginsNothing, Unclosed, Oversized, NoKind}
-use Rattle.lexer.specs.declared.token.Token.{Token}
+use Rattle.token.specs.declared.token.Ending.{Ending}
+use Rattle.token.specs.declared.token.Ending.the-variants.{End, Fault}
+use Rattle.token.specs.declared.token.FaultCode.{FaultCode}
+use Rattle.token.specs.declared.token.FaultCode.the-variants.{BeginsNothing, Unclosed, Oversized, NoKind}
+use Rattle.token.specs.declared.token.Token.{Token}
 
 -- the first n bytes pass, and no more of them do: n is some number
 pub record Longest (p : ℕ → Bool) (bs : List ℕ) (n : ℕ) : Type 0 where

@@ -20,7 +20,7 @@ use Rattle.lexer.specs.Vocabulary.{Lexicon, quoted, reads, first-from, kind-of}
 use Rattle.lexer.specs.declared.bytes.ByteClass.{ByteClass}
 use Rattle.lexer.specs.declared.bytes.ByteClass.the-variants as class-is
 use Rattle.lexer.specs.declared.lexeme.Lexeme.{Lexeme}
-use Rattle.lexer.specs.declared.token.FaultCode.{FaultCode}
+use Rattle.token.specs.declared.token.FaultCode.{FaultCode}
 
 abbrev Between : ℕ → ℕ → Option ℕ → Type 0
 Between low end None = Unit {0}

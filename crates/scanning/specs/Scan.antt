@@ -6,10 +6,10 @@ use Rattle.std.specs.declared.result.Result.the-variants.{Ok, Err}
 use Rattle.lexer.specs.Lexeme.{front}
 use Rattle.lexer.specs.Vocabulary.{Lexicon}
 use Rattle.lexer.specs.declared.lexeme.Lexeme.{Lexeme}
-use Rattle.lexer.specs.declared.token.Ending.{Ending}
-use Rattle.lexer.specs.declared.token.Ending.the-variants.{End, Fault}
-use Rattle.lexer.specs.declared.token.FaultCode.{FaultCode}
-use Rattle.lexer.specs.declared.token.Token.{Token}
+use Rattle.token.specs.declared.token.Ending.{Ending}
+use Rattle.token.specs.declared.token.Ending.the-variants.{End, Fault}
+use Rattle.token.specs.declared.token.FaultCode.{FaultCode}
+use Rattle.token.specs.declared.token.Token.{Token}
 
 -- the tokens of a text, and what it comes to after them
 pub record Scan : Type 0 where

@@ -20,9 +20,9 @@ use Rattle.scanning.specs.Scan.{ending-place}
 use Rattle.lexer.specs.Vocabulary.{Lexicon}
 use Rattle.tokens.specs.declared.skipping.Skipping.{Skipping}
 use Rattle.tokens.specs.declared.text.TextSource.{TextSource}
-use Rattle.lexer.specs.declared.token.Ending.{Ending}
-use Rattle.lexer.specs.declared.token.Ending.the-variants.{End, Fault}
-use Rattle.lexer.specs.declared.token.Token.{Token}
+use Rattle.token.specs.declared.token.Ending.{Ending}
+use Rattle.token.specs.declared.token.Ending.the-variants.{End, Fault}
+use Rattle.token.specs.declared.token.Token.{Token}
 
 -- filters that agree on every element keep the same
 pub kept-alike : {X : Type 0} (p q : X → Bool) → ((x : X) → p x ≡ q x) → (xs : List X) → kept-by p xs ≡ kept-by q xs

@@ -12,11 +12,11 @@ use Rattle.std.proofs.shelf.Lists.{drop-more, drop-all}
 use Rattle.std.proofs.shelf.Tests.{cases-lt, cond-true, cond-false, cond-both}
 use Rattle.tokens.specs.Listed.{is-kind, stored, out-of-range, listed, listed-ending, listed-kinds, List-ends, Well-listed}
 use Rattle.tokens.specs.Sources.{looked}
-use Rattle.lexer.specs.declared.token.Ending.{Ending}
-use Rattle.lexer.specs.declared.token.Ending.the-variants as ending-is
-use Rattle.lexer.specs.declared.token.FaultCode.the-variants.{OutOfRange}
-use Rattle.lexer.specs.declared.token.Next.the-variants.{Token, End}
-use Rattle.lexer.specs.declared.token.Token.{Token as TokenOf}
+use Rattle.token.specs.declared.token.Ending.{Ending}
+use Rattle.token.specs.declared.token.Ending.the-variants as ending-is
+use Rattle.token.specs.declared.token.FaultCode.the-variants.{OutOfRange}
+use Rattle.token.specs.declared.token.Next.the-variants.{Token, End}
+use Rattle.token.specs.declared.token.Token.{Token as TokenOf}
 
 -- the list of what is left, where a kind comes first, and where another number does
 module _ (i k : ℕ) (ks : List ℕ) where

@@ -3,8 +3,8 @@ use mathlib.Core.Path.{_≡_, sym, ap, subst}
 use mathlib.Core.List.{List, _∷_}
 use Rattle.std.specs.declared.result.Result.the-variants.{Ok}
 use Rattle.tokens.specs.Sources.{taken, told, left, Same-if-none}
-use Rattle.lexer.specs.declared.token.Ending.{Ending}
-use Rattle.lexer.specs.declared.token.Token.{Token}
+use Rattle.token.specs.declared.token.Ending.{Ending}
+use Rattle.token.specs.declared.token.Token.{Token}
 
 module _ {ts us : List Token} {t : Token} (first : ts ≡ t ∷ us) where
   pub takes-first : (e : Ending) → told (Ok t) ≡ taken ts e

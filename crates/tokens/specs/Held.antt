@@ -7,12 +7,12 @@ use Rattle.scanning.specs.Scan.{Kind-fits}
 use Rattle.tokens.specs.declared.held.Held.{Held}
 use Rattle.tokens.specs.declared.held.Held.the-variants as held-is
 use Rattle.tokens.specs.declared.held.HeldToken.{HeldToken}
-use Rattle.lexer.specs.declared.token.Ending.{Ending}
-use Rattle.lexer.specs.declared.token.Ending.the-variants as ending-is
-use Rattle.lexer.specs.declared.token.Fault.{Fault}
-use Rattle.lexer.specs.declared.token.Next.{Next}
-use Rattle.lexer.specs.declared.token.Next.the-variants as next-is
-use Rattle.lexer.specs.declared.token.Token.{Token}
+use Rattle.token.specs.declared.token.Ending.{Ending}
+use Rattle.token.specs.declared.token.Ending.the-variants as ending-is
+use Rattle.token.specs.declared.token.Fault.{Fault}
+use Rattle.token.specs.declared.token.Next.{Next}
+use Rattle.token.specs.declared.token.Next.the-variants as next-is
+use Rattle.token.specs.declared.token.Token.{Token}
 
 -- a kind is kept one less and read modulo 122: every value has a kind from 1 to 122
 abbrev pub held-token : HeldToken → Token

@@ -12,7 +12,7 @@ use Rattle.tokens.specs.Held.{held-token, with-held}
 use Rattle.scanning.specs.Scan.{Kind-fits}
 use Rattle.tokens.specs.declared.held.Held.{Held}
 use Rattle.tokens.specs.declared.held.Held.the-variants as held-is
-use Rattle.lexer.specs.declared.token.Token.{Token}
+use Rattle.token.specs.declared.token.Token.{Token}
 
 -- a token is kept whose kind is not skipped
 abbrev pub keeps : KindSet → Token → Bool

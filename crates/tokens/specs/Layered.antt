@@ -13,8 +13,8 @@ use Rattle.scanning.specs.Scan.{scan}
 use Rattle.lexer.specs.Vocabulary.{Lexicon}
 use Rattle.tokens.specs.declared.skipping.Skipping.{Skipping}
 use Rattle.tokens.specs.declared.text.TextSource.{TextSource}
-use Rattle.lexer.specs.declared.token.Ending.{Ending}
-use Rattle.lexer.specs.declared.token.Token.{Token}
+use Rattle.token.specs.declared.token.Ending.{Ending}
+use Rattle.token.specs.declared.token.Token.{Token}
 
 -- a token that is neither a blank nor a comment
 abbrev pub seen : Token → Bool

@@ -3,5 +3,4 @@ pub mod Layer
 pub mod Layered
 pub mod Listed
 pub mod Meaning
-pub mod Refusals
 pub mod Sources

@@ -8,10 +8,10 @@ use lib.ListN.{length, getD}
 use Rattle.std.specs.shelf.Lists.{All}
 use Rattle.std.proofs.shelf.Tests.{cond-both, and-parts, leb-true}
 use Rattle.scanning.specs.Scan.{Kind-fits}
-use Rattle.lexer.specs.declared.token.Ending.{Ending}
-use Rattle.lexer.specs.declared.token.Ending.the-variants.{End, Fault}
-use Rattle.lexer.specs.declared.token.FaultCode.the-variants.{OutOfRange}
-use Rattle.lexer.specs.declared.token.Token.{Token}
+use Rattle.token.specs.declared.token.Ending.{Ending}
+use Rattle.token.specs.declared.token.Ending.the-variants.{End, Fault}
+use Rattle.token.specs.declared.token.FaultCode.the-variants.{OutOfRange}
+use Rattle.token.specs.declared.token.Token.{Token}
 
 abbrev pub is-kind : ℕ → Bool
 is-kind k = leb 1 k && leb k 122

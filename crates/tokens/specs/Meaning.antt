@@ -14,8 +14,8 @@ use Rattle.scanning.specs.Scan.{Kind-fits}
 use Rattle.lexer.specs.Vocabulary.{Lexicon, lexicon}
 use Rattle.tokens.specs.declared.list.ListSource.{ListSource}
 use Rattle.tokens.specs.declared.text.TextSource.{TextSource}
-use Rattle.lexer.specs.declared.token.Ending.{Ending}
-use Rattle.lexer.specs.declared.token.Token.{Token}
+use Rattle.token.specs.declared.token.Ending.{Ending}
+use Rattle.token.specs.declared.token.Token.{Token}
 
 abbrev pub list-tokens : ListSource → List Token
 list-tokens s = listed (s .place) (drop (s .place) (s .kinds .now))

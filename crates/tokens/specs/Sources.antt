@@ -5,14 +5,14 @@ use Prim.Native.Nat.{ℕ}
 use Rattle.std.specs.declared.result.Result.{Result}
 use Rattle.std.specs.declared.result.Result.the-variants.{Ok, Err}
 use Rattle.scanning.specs.Scan.{ending-place}
-use Rattle.tokens.specs.Refusals.{nothing-left}
-use Rattle.tokens.specs.declared.refusal.NothingLeft.{NothingLeft}
-use Rattle.lexer.specs.declared.token.Ending.{Ending}
-use Rattle.lexer.specs.declared.token.Ending.the-variants as ending-is
-use Rattle.lexer.specs.declared.token.Fault.{Fault}
-use Rattle.lexer.specs.declared.token.Next.{Next}
-use Rattle.lexer.specs.declared.token.Next.the-variants as next-is
-use Rattle.lexer.specs.declared.token.Token.{Token}
+use Rattle.token.specs.Refusals.{nothing-left}
+use Rattle.token.specs.declared.refusal.NothingLeft.{NothingLeft}
+use Rattle.token.specs.declared.token.Ending.{Ending}
+use Rattle.token.specs.declared.token.Ending.the-variants as ending-is
+use Rattle.token.specs.declared.token.Fault.{Fault}
+use Rattle.token.specs.declared.token.Next.{Next}
+use Rattle.token.specs.declared.token.Next.the-variants as next-is
+use Rattle.token.specs.declared.token.Token.{Token}
 
 abbrev pub at-ending : Ending → Result Next Fault
 at-ending (ending-is.End p) = Ok (next-is.End p)

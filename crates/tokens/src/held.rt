@@ -2,9 +2,9 @@
 ghost use mathlib.Core.Path.{_≡_};
 ghost use Rattle.tokens.specs.Held.{held-token, shown, Next-fits};
 ghost use Rattle.scanning.specs.Scan.{Kind-fits};
-use lexer::Fault;
-use lexer::Next;
-use lexer::Token;
+use token::Fault;
+use token::Next;
+use token::Token;
 
 // How many kinds there are.
 const KINDS: u8 = 122;

@@ -6,16 +6,16 @@ ghost use lib.Dec.{eqb};
 ghost use Rattle.kindset.specs.Member.{member};
 ghost use Rattle.std.specs.Results.{Cases};
 ghost use Rattle.tokens.specs.Layered.{Layered};
-ghost use Rattle.tokens.specs.Refusals.{Too-long};
+ghost use Rattle.token.specs.Refusals.{Too-long};
 ghost use Rattle.lexer.specs.Vocabulary.{lexicon};
-use lexer::BLANK;
-use lexer::COMMENT;
-use crate::refusal::TooLong;
 use crate::skipping::Skipping;
 use crate::text::TextSource;
 use crate::text::TextTokens;
-use lexer::Vocabulary;
 use kindset::KindSet;
+use lexer::BLANK;
+use lexer::COMMENT;
+use lexer::Vocabulary;
+use token::TooLong;
 
 // The kinds of blanks and comments.
 fn passed_over() -> KindSet

@@ -4,12 +4,12 @@ ghost use denote.Ref.{now};
 ghost use lib.ListN.{drop};
 ghost use Rattle.tokens.specs.Listed.{is-kind, listed-kinds};
 ghost use Rattle.tokens.specs.Meaning.{list-tokens, list-ending, Lists};
-use crate::refusal::NothingLeft;
 use crate::source::TokenSource;
-use lexer::Fault;
-use lexer::FaultCode;
-use lexer::Next;
-use lexer::Token;
+use token::Fault;
+use token::FaultCode;
+use token::Next;
+use token::NothingLeft;
+use token::Token;
 
 // A table of kinds, read from a place on. A token's place is its index and its length is 1.
 #[derive(Drop)]

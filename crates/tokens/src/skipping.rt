@@ -3,13 +3,13 @@ ghost use mathlib.Core.Path.{_≡_};
 ghost use Rattle.tokens.specs.Held.{with-held, held-ending};
 ghost use Rattle.tokens.specs.Layer.{without, layer-kinds};
 use crate::held::Held;
-use crate::refusal::NothingLeft;
 use crate::source::TokenSource;
 use crate::source::WithText;
-use lexer::Fault;
-use lexer::Next;
-use lexer::Token;
 use kindset::KindSet;
+use token::Fault;
+use token::Next;
+use token::NothingLeft;
+use token::Token;
 
 // A source whose list is that of the inner source without the skipped kinds, with the same
 // ending. It holds its first token, or else the ending; the inner source has what follows.

@@ -7,12 +7,12 @@ ghost use Rattle.std.specs.shelf.Lists.{All};
 ghost use Rattle.scanning.specs.Scan.{Kind-fits};
 ghost use Rattle.tokens.specs.Sources.{looked, taken, told, left, Same-if-none};
 ghost use Rattle.lexer.specs.Parts.{part-of};
-ghost use Rattle.lexer.specs.declared.token.Token.{Token as TokenOf};
-ghost use Rattle.lexer.specs.declared.token.Ending.{Ending as EndingOf};
-use crate::refusal::NothingLeft;
-use lexer::Fault;
-use lexer::Next;
-use lexer::Token;
+ghost use Rattle.token.specs.declared.token.Token.{Token as TokenOf};
+ghost use Rattle.token.specs.declared.token.Ending.{Ending as EndingOf};
+use token::Fault;
+use token::Next;
+use token::NothingLeft;
+use token::Token;
 
 // A finite list of tokens to come, and an ending.
 pub trait TokenSource {

@@ -6,8 +6,8 @@ use Rattle.lines.specs.Lines.{survey-of}
 use Rattle.lines.specs.declared.survey.Survey.{Survey}
 use Rattle.tokens.specs.Layered.{seen}
 use Rattle.scanning.specs.Scan.{scan}
-use Rattle.lexer.specs.declared.token.Ending.{Ending}
-use Rattle.lexer.specs.declared.token.Token.{Token}
+use Rattle.token.specs.declared.token.Ending.{Ending}
+use Rattle.token.specs.declared.token.Token.{Token}
 use Rattle.lines.proofs.survey.survey_text.Needs as need
 
 same-survey : (s : Survey) (ts us : List Token) (e f : Ending) → s ≡ survey-of ts e → ts ≡ us → e ≡ f → s ≡ survey-of us f

@@ -3,8 +3,8 @@ use mathlib.Core.List.{List, [], _∷_}
 use mathlib.Core.Path.{_≡_}
 use Prim.Native.Nat.{ℕ, _<_}
 use lib.ListN.{length}
-use Rattle.tokens.specs.declared.refusal.NothingLeft.{NothingLeft}
-use Rattle.tokens.specs.declared.refusal.TooLong.{TooLong}
+use Rattle.token.specs.declared.refusal.NothingLeft.{NothingLeft}
+use Rattle.token.specs.declared.refusal.TooLong.{TooLong}
 
 abbrev pub too-long : TooLong → List ℕ
 too-long r = 1 ∷ r .limit ∷ []

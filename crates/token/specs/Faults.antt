@@ -1,7 +1,7 @@
 -- The numbers of faults.
 use Prim.Native.Nat.{ℕ}
-use Rattle.lexer.specs.declared.token.FaultCode.{FaultCode}
-use Rattle.lexer.specs.declared.token.FaultCode.the-variants.{BeginsNothing, Unclosed, Oversized, NoKind, OutOfRange}
+use Rattle.token.specs.declared.token.FaultCode.{FaultCode}
+use Rattle.token.specs.declared.token.FaultCode.the-variants.{BeginsNothing, Unclosed, Oversized, NoKind, OutOfRange}
 
 abbrev pub fault-number : FaultCode → ℕ
 fault-number BeginsNothing = 1

@@ -1,6 +1,6 @@
 // What a source hands out: tokens, the end of its input, and faults.
 ghost use mathlib.Core.Path.{_≡_};
-ghost use Rattle.lexer.specs.Faults.{fault-number};
+ghost use Rattle.token.specs.Faults.{fault-number};
 
 // A token: its kind from 1 to 122, and where its bytes stand.
 #[derive(Clone, Copy, Debug, PartialEq, Eq)]

@@ -3,7 +3,7 @@ ghost use mathlib.Core.Path.{_≡_};
 ghost use mathlib.Core.List.{List};
 ghost use Prim.Native.Nat.{ℕ};
 ghost use lib.ListN.{getD};
-ghost use Rattle.tokens.specs.Refusals.{too-long, nothing-left};
+ghost use Rattle.token.specs.Refusals.{too-long, nothing-left};
 
 // A refusal: its number and then its values in order are its whole meaning.
 pub trait Numbered {
