@@ -1,0 +1,11 @@
+pub mod Completed
+pub mod Listing
+pub mod Meaning
+pub mod Numbering
+pub mod Reading
+pub mod Shaped
+pub mod Standing
+pub mod Statements
+pub mod Syntax
+pub mod Tables
+pub mod Tokens
