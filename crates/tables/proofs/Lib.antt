@@ -1,0 +1,5 @@
+pub mod Ended
+pub mod Filled
+pub mod Meant
+pub mod Rooted
+pub mod Rows
