@@ -17,6 +17,7 @@ pub mod Roots
 pub mod Rules
 pub mod Shaping
 pub mod Sound
+pub mod Steps
 pub mod Told
 pub mod Unique
 pub mod Way
