@@ -1,1 +1,2 @@
 pub mod Notation
+pub mod Pieces

@@ -17,7 +17,7 @@ pub enum ByteClass {
 
 // The bytes that go on with what has begun.
 #[derive(Clone, Copy)]
-pub(crate) enum Run {
+pub enum Run {
     Blanks,
     Comment,
     Word,
@@ -31,7 +31,7 @@ fn is_blank(b: u8) -> bool
     b == b' ' || b == b'\t' || b == b'\r' || b == b'\n'
 }
 
-pub(crate) fn is_sign(b: u8) -> bool
+pub fn is_sign(b: u8) -> bool
     ensures { λ r. ⌜ r ≡ sign b ⌝ }
 {
     b.is_ascii_punctuation()
@@ -76,7 +76,7 @@ fn continues(run: Run, b: u8) -> bool
 }
 
 // How many bytes at the front go on with `run`.
-pub(crate) fn run_length(rest: &[u8], run: Run) -> usize
+pub fn run_length(rest: &[u8], run: Run) -> usize
     ensures { λ r. ⌜ r ≡ leading (goes-on run) (now (rest .entry)) ⌝ }
 {
     let mut n = 0;

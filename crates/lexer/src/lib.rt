@@ -4,6 +4,9 @@ mod lexeme;
 mod vocabulary;
 
 pub use bytes::ByteClass;
+pub use bytes::Run;
+pub use bytes::is_sign;
+pub use bytes::run_length;
 pub use lexeme::BLANK;
 pub use lexeme::COMMENT;
 pub use lexeme::Lexeme;
