@@ -1,9 +1,9 @@
 // Grammars: the notation in which they are printed.
-mod notation;
+mod marks;
 mod piece;
 mod spelling;
 
-pub use notation::vocabulary;
+pub use marks::vocabulary;
 pub use piece::Bracket;
 pub use piece::Piece;
 pub use piece::piece_of;
