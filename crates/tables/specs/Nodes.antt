@@ -59,7 +59,9 @@ pub record Row-ended (c : Class) (row : List ℕ) (before after : Nodes) (n : �
   pub number : n ≡ over-row c row (node-list before) .at
   pub nodes : node-list after ≡ over-row c row (node-list before) .nodes
   pub kept : Rest-kept before after
+  pub fits : (length row ≡ 1 → ⊥) → length (node-list after) ≤ node-limit before
 
 pub record Row-refused (c : Class) (row : List ℕ) (before after : Nodes) : Type 0 where
   pub full : node-limit before < length (over-row c row (node-list before) .nodes)
+  pub nodes : node-list after ≡ link row (node-list before)
   pub kept : Rest-kept before after
