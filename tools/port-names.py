@@ -13,7 +13,7 @@ import os
 import re
 import sys
 
-TOKEN = re.compile(r'--[^\n]*|//[^\n]*|"(?:[^"\\]|\\.)*"|\'(?:[^\'\\]|\\.)\'|«[^»]*»|[^\W\d][\w\'-]*|.', re.S)
+TOKEN = re.compile(r'b\'(?:[^\'\\]|\\.)\'|--[^\n]*|//[^\n]*|"(?:[^"\\]|\\.)*"|\'(?:[^\'\\]|\\.)\'|«[^»]*»|[^\W\d][\w\'-]*|.', re.S)
 USE = re.compile(r"(?m)^\s*(?:pub )?(?:ghost )?use ([\w.·+'-]+)\.\{([^}]*)\}")
 
 
@@ -69,7 +69,7 @@ def imports(text, crates):
         for one in names.split(","):
             words = one.split()
             if words and (made or not own):
-                foreign.add(words[0])
+                foreign |= {words[0], *words[0].split("+")}
                 if len(words) == 3 and words[1] == "as":
                     foreign.discard(words[2])
     return foreign

@@ -1,4 +1,6 @@
 // Drafts: grammars as they were read, before they are judged any further.
+#![tactic(auto)]
+
 mod calls;
 mod draft;
 

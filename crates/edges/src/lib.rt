@@ -1,3 +1,5 @@
 // Tests of the judging of grammars and of their drafts, at its edges.
+#![tactic(auto)]
+
 #[cfg(test)]
 mod tests;

@@ -1,4 +1,6 @@
 // Grammars: the notation in which they are printed.
+#![tactic(auto)]
+
 mod bodies;
 mod forest;
 mod judging;

@@ -1,4 +1,6 @@
 // Reads grammar.txt and job.txt in the working folder, and prints what was found.
+#![tactic(auto)]
+
 ghost use Rattle.std.specs.Prelude.{◌≤◌, length};
 
 use lines::printout;

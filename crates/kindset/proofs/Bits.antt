@@ -8,8 +8,8 @@ use Rattle.std.proofs.lemmas.Nat.{pow_pos, pow-add, shl-shr, shr-shr, field_of, 
 use Rattle.std.proofs.lemmas.Bool.{cases_eq}
 use Rattle.kindset.specs.Bits.{bit}
 
-pub bit-bit_or : (a b m : ℕ) → bit (bit_or a b) m ≡ max (bit a m) (bit b m)
-bit-bit_or a b m = ap (λ u. u % 2) (or_shr a b m ∙ or_step (a / 2 ^ m) (b / 2 ^ m)) ∙ omega arith
+pub bit_bit_or : (a b m : ℕ) → bit (bit_or a b) m ≡ max (bit a m) (bit b m)
+bit_bit_or a b m = ap (λ u. u % 2) (or_shr a b m ∙ or_step (a / 2 ^ m) (b / 2 ^ m)) ∙ omega arith
 
 pub bit_half : (a m : ℕ) → bit (a / 2) m ≡ bit a (suc m)
 bit_half a m = ap (λ u. u % 2) (shr-shr a 1 m ∙ ap (λ k. a / 2 ^ k) (omega arith))
@@ -52,8 +52,8 @@ bit_pow_other k m d = go (dec_lt m k)
 pub bit_zero : (m : ℕ) → bit 0 m ≡ 0
 bit_zero m = bit_high 0 0 m (omega arith) (omega arith)
 
-pub bit-bit_and : (a b m : ℕ) → bit (bit_and a b) m ≡ min (bit a m) (bit b m)
-bit-bit_and a b m = ap (λ u. u % 2) (and_shr a b m ∙ and_step (a / 2 ^ m) (b / 2 ^ m)) ∙ omega arith
+pub bit_bit_and : (a b m : ℕ) → bit (bit_and a b) m ≡ min (bit a m) (bit b m)
+bit_bit_and a b m = ap (λ u. u % 2) (and_shr a b m ∙ and_step (a / 2 ^ m) (b / 2 ^ m)) ∙ omega arith
 
 -- the lowest bit that is set
 module _ (k n : ℕ) where

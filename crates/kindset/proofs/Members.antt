@@ -4,7 +4,7 @@ use lib.Bits.{bit_or, bit_and}
 use lib.Count.{count_trailing_zeros}
 use Rattle.std.proofs.lemmas.Bool.{cases_eq, cases_lt, eq-eqb, ne_eqb, lt-ltb, le-ltb}
 use Rattle.kindset.specs.Bits.{bit}
-use Rattle.kindset.proofs.Bits.{bit-bit_or, bit-bit_and, bit_high, bit_mod, bit_pow_same, bit_pow_other, bit_zero, trailing_low, trailing_hit}
+use Rattle.kindset.proofs.Bits.{bit_bit_or, bit_bit_and, bit_high, bit_mod, bit_pow_same, bit_pow_other, bit_zero, trailing_low, trailing_hit}
 
 eqb_max : (x y : ℕ) → x < 2 → y < 2 → eqb (max x y) 1 ≡ (eqb x 1 || eqb y 1)
 eqb_max x y p q =
@@ -36,7 +36,7 @@ bit_two s m = omega arith
 
 -- a union
 pub union_member : (s t m : ℕ) → (ltb m 128 && eqb (bit (bit_or s t) m) 1) ≡ ((ltb m 128 && eqb (bit s m) 1) || (ltb m 128 && eqb (bit t m) 1))
-union_member s t m = ap (λ u. ltb m 128 && eqb u 1) (bit-bit_or s t m) ∙ ap (λ b. ltb m 128 && b) (eqb_max (bit s m) (bit t m) (bit_two s m) (bit_two t m)) ∙ spread (ltb m 128) (eqb (bit s m) 1) (eqb (bit t m) 1)
+union_member s t m = ap (λ u. ltb m 128 && eqb u 1) (bit_bit_or s t m) ∙ ap (λ b. ltb m 128 && b) (eqb_max (bit s m) (bit t m) (bit_two s m) (bit_two t m)) ∙ spread (ltb m 128) (eqb (bit s m) 1) (eqb (bit t m) 1)
 
 -- a bit alone
 pow_member : (k m : ℕ) → eqb (bit (2 ^ k) m) 1 ≡ eqb m k
@@ -68,7 +68,7 @@ without_member s m =
 -- members of both
 module _ (s t : ℕ) where
   pub both_member : (m : ℕ) → ((ltb m 128 && eqb (bit s m) 1) && (ltb m 128 && eqb (bit t m) 1)) ≡ (ltb m 128 && eqb (bit (bit_and s t) m) 1)
-  both_member m = gathered (ltb m 128) (eqb (bit s m) 1) (eqb (bit t m) 1) ∙ ap (λ b. ltb m 128 && b) (eqb_min (bit s m) (bit t m) (bit_two s m) (bit_two t m)) ∙ ap (λ u. ltb m 128 && eqb u 1) (sym (bit-bit_and s t m))
+  both_member m = gathered (ltb m 128) (eqb (bit s m) 1) (eqb (bit t m) 1) ∙ ap (λ b. ltb m 128 && b) (eqb_min (bit s m) (bit t m) (bit_two s m) (bit_two t m)) ∙ ap (λ u. ltb m 128 && eqb u 1) (sym (bit_bit_and s t m))
 
   off : (b : Bool) → (b && false) ≡ false
   off true = refl

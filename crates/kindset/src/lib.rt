@@ -1,4 +1,6 @@
 // Sets of kinds: numbers below 128, one bit each.
+#![tactic(auto)]
+
 ghost use Rattle.std.specs.Prelude.{◌≡◌, ℕ, Bool, false, ◌&&◌, ◌||◌, ◌==◌, nat_lt};
 ghost use Rattle.kindset.specs.Member.{member, LowestShared};
 

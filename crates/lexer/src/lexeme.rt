@@ -59,7 +59,7 @@ fn length_of_string(inside: &[u8]) -> Option<usize>
 }
 
 fn lex_string(inside: &[u8], vocabulary: &Vocabulary<'_, '_>) -> Result<Lexeme, FaultCode>
-    ensures { result ≡ string-lexeme (lexicon vocabulary.now) (string-length inside.now) }
+    ensures { result ≡ string_lexeme (lexicon vocabulary.now) (string_length inside.now) }
 {
     match length_of_string(inside) {
         Some(length) => judge(length, vocabulary.kind_of(Sought::Class(b"STRING"))),
@@ -69,7 +69,7 @@ fn lex_string(inside: &[u8], vocabulary: &Vocabulary<'_, '_>) -> Result<Lexeme, 
 
 // The kind of two sign bytes, if the grammar spells the pair.
 fn kind_of_pair(first: u8, second: u8, vocabulary: &Vocabulary<'_, '_>) -> Option<u8>
-    ensures { result ≡ pair-kind (lexicon vocabulary.now) first second }
+    ensures { result ≡ pair_kind (lexicon vocabulary.now) first second }
 {
     if !is_sign(second) {
         return None;
@@ -78,14 +78,14 @@ fn kind_of_pair(first: u8, second: u8, vocabulary: &Vocabulary<'_, '_>) -> Optio
 }
 
 fn lex_one_sign(first: u8, vocabulary: &Vocabulary<'_, '_>) -> Result<Lexeme, FaultCode>
-    ensures { result ≡ one-sign (lexicon vocabulary.now) first }
+    ensures { result ≡ one_sign (lexicon vocabulary.now) first }
 {
     judge(1, vocabulary.kind_of(Sought::Quoted(&[first])))
 }
 
 // Two sign bytes if the grammar spells the pair, else one.
 fn lex_sign(rest: &[u8], vocabulary: &Vocabulary<'_, '_>) -> Result<Lexeme, FaultCode>
-    ensures { result ≡ sign-lexeme (lexicon vocabulary.now) rest.now }
+    ensures { result ≡ sign_lexeme (lexicon vocabulary.now) rest.now }
 {
     match rest {
         [first, second, ..] => match kind_of_pair(*first, *second, vocabulary) {
@@ -105,7 +105,7 @@ fn lex_class(
     vocabulary: &Vocabulary<'_, '_>,
 ) -> Result<Lexeme, FaultCode>
     requires { rest.now ≡ first ∷ after.now }
-    ensures { result ≡ by-class (lexicon vocabulary.now) (class first) first after.now }
+    ensures { result ≡ by_class (lexicon vocabulary.now) (class first) first after.now }
 {
     match class_of(first) {
         ByteClass::Blank => Ok(Lexeme {

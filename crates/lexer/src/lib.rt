@@ -1,4 +1,6 @@
 // A grammar's vocabulary, and the token at the front of a text.
+#![tactic(auto)]
+
 mod bytes;
 mod lexeme;
 mod vocabulary;

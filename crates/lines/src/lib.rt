@@ -1,4 +1,6 @@
 // What jobread prints, as bytes.
+#![tactic(auto)]
+
 mod judged;
 mod output;
 mod put;

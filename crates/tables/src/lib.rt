@@ -1,4 +1,6 @@
 // The tables of a grammar while its text is read: each is lent, and filled from place 0 on.
+#![tactic(auto)]
+
 mod full;
 mod name;
 mod names;

@@ -1,4 +1,6 @@
 // What a source of tokens hands out: tokens, the end, faults and refusals.
+#![tactic(auto)]
+
 mod refusal;
 mod token;
 

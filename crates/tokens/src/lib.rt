@@ -1,4 +1,6 @@
 // Token sources: what the readers above read from.
+#![tactic(auto)]
+
 mod held;
 mod layering;
 mod list;

@@ -7,7 +7,7 @@ use Rattle.std.proofs.lemmas.Nat.{pow_pos, pow_below}
 use Rattle.kindset.specs.Bits.{bit}
 use Rattle.yields.specs.Marks.{Has, without_empty, first_then, lacking, first, ending}
 use Rattle.yields.specs.Weighing.{Laws}
-use Rattle.kindset.proofs.Bits.{bit-bit_or, same_bits, bit_high}
+use Rattle.kindset.proofs.Bits.{bit_bit_or, same_bits, bit_high}
 use Rattle.yields.proofs.Sets.{has_below, inside_or, or_inside, then_lacks, then_full, then_marks, then_left, then_right, lacking_less}
 
 first_then_rises : (a b c d : ℕ) → a < 2 ^ 128 → bit_or a c ≡ c → bit_or b d ≡ d → bit_or (first_then a b) (first_then c d) ≡ first_then c d
@@ -29,7 +29,7 @@ first_height_falls : (x y : ℕ) → y < 2 ^ 128 → bit_or x y ≡ y → ¬ (x 
 first_height_falls x y fits p d = go (lacking_less x y 128 less)
   where
     less : (m : ℕ) → bit x m ≤ bit y m
-    less m = let e = bit-bit_or x y m in let f : bit (bit_or x y) m ≡ bit y m = ap (λ u. bit u m) p in omega arith
+    less m = let e = bit_bit_or x y m in let f : bit (bit_or x y) m ≡ bit y m = ap (λ u. bit u m) p in omega arith
 
     go : ((lacking y 128 < lacking x 128) ⊎ ((lacking y 128 ≡ lacking x 128) × ((m : ℕ) → m < 128 → bit x m ≡ bit y m))) → lacking y 128 < lacking x 128
     go (inl f) = f
@@ -47,7 +47,7 @@ first_then_fits x y p q = go (ℕ_discrete (bit x 127) 1)
     go (no d) = subst (λ u. u < 2 ^ 128) (sym (then_lacks x y d)) p
 
 or_assoc : (x y z : ℕ) → bit_or (bit_or x y) z ≡ bit_or x (bit_or y z)
-or_assoc x y z = same_bits _ _ (λ m. let a = bit-bit_or (bit_or x y) z m in let b = bit-bit_or x y m in let c = bit-bit_or x (bit_or y z) m in let d = bit-bit_or y z m in omega arith)
+or_assoc x y z = same_bits _ _ (λ m. let a = bit_bit_or (bit_or x y) z m in let b = bit_bit_or x y m in let c = bit_bit_or x (bit_or y z) m in let d = bit_bit_or y z m in omega arith)
 
 pub first_laws : Laws first
 first_laws = record {

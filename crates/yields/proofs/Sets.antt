@@ -3,7 +3,7 @@ use Rattle.std.proofs.Common.{◌≡◌, ℕ, zero, suc, ◌-◌, ◌%◌, ◌^�
 use native.Mathlib.Decide.{ℕ_discrete, dec_lt}
 use lib.Bits.{bit_or}
 use Rattle.std.proofs.lemmas.Nat.{pow_pos, mod_below}
-use Rattle.kindset.proofs.Bits.{bit-bit_or, same_bits, bit_high, bit_mod, bit_pow_other}
+use Rattle.kindset.proofs.Bits.{bit_bit_or, same_bits, bit_high, bit_mod, bit_pow_other}
 use Rattle.kindset.specs.Bits.{bit}
 use Rattle.yields.specs.Marks.{Has, without_empty, first_then, lacking}
 
@@ -20,13 +20,13 @@ has_or a b m h = go (ℕ_discrete (bit a m) 1)
   where
     go : Dec (bit a m ≡ 1) → Has a m ⊎ Has b m
     go (yes e) = inl e
-    go (no d) = let e = bit-bit_or a b m in inr (omega arith)
+    go (no d) = let e = bit_bit_or a b m in inr (omega arith)
 
 pub or_left : (a b m : ℕ) → Has a m → Has (bit_or a b) m
-or_left a b m h = let e = bit-bit_or a b m in omega arith
+or_left a b m h = let e = bit_bit_or a b m in omega arith
 
 pub or_right : (a b m : ℕ) → Has b m → Has (bit_or a b) m
-or_right a b m h = let e = bit-bit_or a b m in omega arith
+or_right a b m h = let e = bit_bit_or a b m in omega arith
 
 pub has_pow : (k m : ℕ) → Has (2 ^ k) m → m ≡ k
 has_pow k m h = go (ℕ_discrete m k)
@@ -50,8 +50,8 @@ pub inside_or : (a b : ℕ) → ((m : ℕ) → Has a m → Has b m) → bit_or a
 inside_or a b h = same_bits (bit_or a b) b (λ m. go m (ℕ_discrete (bit a m) 1))
   where
     go : (m : ℕ) → Dec (bit a m ≡ 1) → bit (bit_or a b) m ≡ bit b m
-    go m (yes e) = let f = h m e in let g = bit-bit_or a b m in omega arith
-    go m (no d) = let g = bit-bit_or a b m in omega arith
+    go m (yes e) = let f = h m e in let g = bit_bit_or a b m in omega arith
+    go m (no d) = let g = bit_bit_or a b m in omega arith
 
 pub or_inside : (a b m : ℕ) → bit_or a b ≡ b → Has a m → Has b m
 or_inside a b m e h = subst (λ u. Has u m) e (or_left a b m h)

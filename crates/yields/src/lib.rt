@@ -1,1 +1,2 @@
 // What the nodes of a grammar yield, and what FIRST and FOLLOW are: definitions and their laws, and no code.
+#![tactic(auto)]

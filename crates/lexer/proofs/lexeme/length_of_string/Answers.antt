@@ -6,7 +6,7 @@ use Rattle.lexer.specs.Bytes.{goes_on, quote}
 use Rattle.lexer.specs.Lexeme.{string_length}
 use Rattle.lexer.specs.declared.bytes.Run.TheVariants.{Quoted}
 use Rattle.lexer.proofs.lexeme.length_of_string.Goals as goal
-use Rattle.lexer.proofs.lexeme.length_of_string.Goals.{else_n_inside_via_then_n_inside+else_inside_n_eq34, else-n-inside-via-else-n-inside}
+use Rattle.lexer.proofs.lexeme.length_of_string.Goals.{else-n-inside-via-then-n-inside+else-inside-n-eq34, else-n-inside-via-else-n-inside}
 
 -- no quote stands where the run ends
 open_ended : (bs : List ℕ) → (get_or bs (prefix_len (goes_on Quoted) bs) 0 ≡ quote → ⊥) → None ≡ string_length bs
@@ -14,10 +14,10 @@ open_ended bs differs = let m = prefix_len (goes_on Quoted) bs in sym (cond-fals
 
 pub returns-else-n-inside : goal.returns-else-n-inside
 returns-else-n-inside c =
-    let n = c.run-length-n.ensures in
+    let n = c.run_length-n.ensures in
     let bs = c.args.inside.now in
     let m = prefix_len (goes_on Quoted) bs in
     elim c.else-n-inside.branch [
-      | else_n_inside_via_then_n_inside+else_inside_n_eq34 w ↦ open_ended bs (λ e. w.if-inside-n-eq34.false (ap (λ k. get_or bs k 0) n ∙ e))
+      | else-n-inside-via-then-n-inside+else-inside-n-eq34 w ↦ open_ended bs (λ e. w.if-inside-n-eq34.false (ap (λ k. get_or bs k 0) n ∙ e))
       | else-n-inside-via-else-n-inside w ↦ open_ended bs (λ e. omega (arith, e, get_or_past bs m 0 (omega (arith, n, w.if-n-inside.false))))
     ]

@@ -8,4 +8,4 @@ pub lex-class-requires : goal.lex-class-requires
 lex-class-requires c = first_rest c.args.rest.now 0 (search rules)
 
 pub returns : goal.returns
-returns c = c.lex-class.ensures ∙ ap (front (lexicon c.args.vocabulary.now)) (sym (first_rest c.args.rest.now 0 (search rules)))
+returns c = c.lex_class.ensures ∙ ap (front (lexicon c.args.vocabulary.now)) (sym (first_rest c.args.rest.now 0 (search rules)))

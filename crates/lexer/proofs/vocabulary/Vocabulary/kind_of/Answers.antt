@@ -37,7 +37,7 @@ returns-then-is-spelled c =
     named (lexicon v) w _ (sym (c.loop-i.invariant ∙ found v w c.loop-i.i _ (omega arith) (omega arith) (sym c.if-is-spelled.ensures)))
 
 pub loop-i-preserved : goal.loop-i-preserved
-loop-i-preserved c = c.loop-i.invariant ∙ passed c.args.self.now (written c.args.sought) c.loop-i.i _ (omega arith) (omega arith) (sym c.if-is-spelled.ensures)
+loop-i-preserved c = c.loop-i.invariant ∙ passed c.args.self.now (written c.args.sought) c.loop-i.i _ (omega arith) (omega arith) (sym c.if-is_spelled.ensures)
 
 pub returns : goal.returns
 returns c =
