@@ -30,11 +30,11 @@ module _ (v : Vocabulary) (w : List ℕ) (i : ℕ) (d : Spelling) (low : i < 120
 named : (x : Lexicon) (w : List ℕ) (r : Option ℕ) → r ≡ kind_of x w → record { value : r ≡ kind_of x w; names : Names x w r }
 named x w r e = record { value = e; names = subst (Names x w) (sym e) (kind_names x w) }
 
-pub returns-then-is-spelled : goal.returns-then-is-spelled
-returns-then-is-spelled c =
+pub returns-then-is_spelled : goal.returns-then-is_spelled
+returns-then-is_spelled c =
     let v = c.args.self.now in
     let w = written c.args.sought in
-    named (lexicon v) w _ (sym (c.loop-i.invariant ∙ found v w c.loop-i.i _ (omega arith) (omega arith) (sym c.if-is-spelled.ensures)))
+    named (lexicon v) w _ (sym (c.loop-i.invariant ∙ found v w c.loop-i.i _ (omega arith) (omega arith) (sym c.if-is_spelled.ensures)))
 
 pub loop-i-preserved : goal.loop-i-preserved
 loop-i-preserved c = c.loop-i.invariant ∙ passed c.args.self.now (written c.args.sought) c.loop-i.i _ (omega arith) (omega arith) (sym c.if-is_spelled.ensures)
