@@ -5,4 +5,4 @@ use Rattle.tokens.proofs.layering.layered.Goals as goal
 pub returns : goal.returns
 returns c =
     let made = c.new-2.ensures in
-    over_text (lexicon c.args.vocabulary) c.args.text.now c.in-ok-source.source c.passed-over.result c.new-2.result c.in-ok-source.ensures c.passed-over.ensures made.tokens made.ending made.input
+    over_text (lexicon c.args.vocabulary) c.args.text.now c.in_ok-source.source c.passed_over.result c.new-2.result c.in_ok-source.ensures c.passed_over.ensures made.tokens made.ending made.input

@@ -10,8 +10,8 @@ returns-then-place-text c =
     let scanned = ap (λ bs. scan_from (lexicon c.args.vocabulary.now) bs c.args.place) (drop_all c.args.place c.args.text.now (omega arith)) in
     record { tokens = sym (ap (λ s. s.tokens) scanned); ending = sym (ap (λ s. s.ending) scanned) }
 
-pub overflow-add-place : goal.overflow-add-place
-overflow-add-place c = omega (arith, (scan_token (lexicon c.args.vocabulary.now) c.args.text.now c.args.place (omega arith) c.in-Ok.field-0 c.in-Ok.ensures).within)
+pub overflow_add-place : goal.overflow_add-place
+overflow_add-place c = omega (arith, (scan_token (lexicon c.args.vocabulary.now) c.args.text.now c.args.place (omega arith) c.in-Ok.field-0 c.in-Ok.ensures).within)
 
 pub returns-in-Ok : goal.returns-in-Ok
 returns-in-Ok c =

@@ -12,4 +12,4 @@ returns-in-empty c =
 pub returns-in-len1-up : goal.returns-in-len1-up
 returns-in-len1-up c =
     let two : 1 < length c.args.row.now = search rules in
-    ended_row c.args.class c.args.row.now c.args.self.now c.link-row.new.self c.make-in-len1-up.new.self two c.link-row.ensures.nodes c.link-row.ensures.kept c.make-in-len1-up.result c.make-in-len1-up.ensures
+    ended_row c.args.class c.args.row.now c.args.self.now c.link_row.new.self c.make-in-len1-up.new.self two c.link_row.ensures.nodes c.link_row.ensures.kept c.make-in-len1-up.result c.make-in-len1-up.ensures

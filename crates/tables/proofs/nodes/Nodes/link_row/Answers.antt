@@ -8,4 +8,4 @@ pub loop-i-init : goal.loop-i-init
 loop-i-init c = (omega arith, linked_last c.args.row.now (node_list c.args.self.now), kept_none c.args.self.now)
 
 pub loop-i-preserved : goal.loop-i-preserved
-loop-i-preserved c = (omega arith, c.join-nodes.ensures.nodes ∙ ap (join _ _) c.loop-i.invariant.1 ∙ linked_more c.args.row.now c.loop-i.i (node_list c.args.self.now) (omega arith) (omega arith), kept_more c.args.self.now c.loop-i.self c.join-nodes.new.self c.loop-i.invariant.2 c.join-nodes.ensures.kept)
+loop-i-preserved c = (omega arith, c.join_nodes.ensures.nodes ∙ ap (join _ _) c.loop-i.invariant.1 ∙ linked_more c.args.row.now c.loop-i.i (node_list c.args.self.now) (omega arith) (omega arith), kept_more c.args.self.now c.loop-i.self c.join_nodes.new.self c.loop-i.invariant.2 c.join_nodes.ensures.kept)

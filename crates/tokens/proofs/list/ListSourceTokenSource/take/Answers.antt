@@ -3,8 +3,8 @@ use Rattle.tokens.proofs.Listing.{goes_on}
 use Rattle.tokens.proofs.Taking.{takes_first, leaves_rest, not_none}
 use Rattle.tokens.proofs.list.ListSourceTokenSource.take.Goals as goal
 
-pub overflow-add-self : goal.overflow-add-self
-overflow-add-self c =
+pub overflow_add-self : goal.overflow_add-self
+overflow_add-self c =
     let s = c.args.self.now in
     omega (arith, (goes_on s.kinds.now s.place c.in-Ok-Token.token (search rules)).within)
 

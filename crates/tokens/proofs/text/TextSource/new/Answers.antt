@@ -8,7 +8,7 @@ pub returns : goal.returns
 returns c =
     let x = lexicon c.args.vocabulary in
     let text = c.args.text.now in
-    let scanned = c.lex-at-ahead.ensures in
+    let scanned = c.lex_at-ahead.ensures in
     record {
       short = omega arith;
       tokens = scanned.tokens;
