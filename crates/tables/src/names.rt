@@ -12,6 +12,7 @@ impl Spots<'_, '_, Name> {
     pub fn set_root(&mut self, name: usize, root: u16)
         ensures list { records self.new ≡ rooted name root (records self.old) }
         ensures kept { RestKept self.old self.new }
+        ensures loan { self.new.table.ghost_name ≡ self.old.table.ghost_name }
     {
         if name < self.known() {
             self.table[name].root = root;

@@ -52,7 +52,8 @@ impl Nodes<'_> {
 
     // One more node, with no sibling yet; refused where the table is full.
     pub fn make(&mut self, class: Class, value: u16, first: u16) -> Result<u16, Full>
-        ensures { MatchResult result (NodeMade class value first self.old self.new) (λ _. IsNodesFull self.old self.new) }
+        ensures told { MatchResult result (NodeMade class value first self.old self.new) (λ _. IsNodesFull self.old self.new) }
+        ensures loan { self.new.table.ghost_name ≡ self.old.table.ghost_name }
     {
         let number = self.count;
         if number >= NODES || number >= self.table.len() {
@@ -72,6 +73,7 @@ impl Nodes<'_> {
     fn join_nodes(&mut self, node: u16, next: u16)
         ensures nodes { node_list self.new ≡ join node next (node_list self.old) }
         ensures kept { RestKept self.old self.new }
+        ensures loan { self.new.table.ghost_name ≡ self.old.table.ghost_name }
     {
         let i = node as usize;
         if i >= self.count || i >= self.table.len() {
@@ -84,6 +86,7 @@ impl Nodes<'_> {
     fn link_row(&mut self, row: &[u16])
         ensures nodes { node_list self.new ≡ linked row.now (node_list self.old) }
         ensures kept { RestKept self.old self.new }
+        ensures loan { self.new.table.ghost_name ≡ self.old.table.ghost_name }
     {
         let mut i = row.len();
         while i > 1 {
@@ -95,7 +98,8 @@ impl Nodes<'_> {
     // A node over a row of others, of that class; a row of one is its own, and one of none an
     // empty node.
     pub fn complete(&mut self, class: Class, row: &[u16]) -> Result<u16, Full>
-        ensures { MatchResult result (RowEnded class row.now self.old self.new) (λ _. RowRefused class row.now self.old self.new) }
+        ensures told { MatchResult result (RowEnded class row.now self.old self.new) (λ _. RowRefused class row.now self.old self.new) }
+        ensures loan { self.new.table.ghost_name ≡ self.old.table.ghost_name }
     {
         match row {
             [] => self.make(Class::Empty, 0, NONE),

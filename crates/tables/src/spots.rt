@@ -49,7 +49,8 @@ impl<E: Spotted + Copy> Spots<'_, '_, E> {
     // The index of the record that is written as this one; it is added where there is none, and
     // refused where the table is full.
     pub fn number(&mut self, entry: E) -> Result<usize, Full>
-        ensures { MatchResult result (Numbered E.Spotted.begins E.Spotted.spans entry self.old self.new) (λ _. Refused E.Spotted.begins E.Spotted.spans entry self.old self.new) }
+        ensures told { MatchResult result (Numbered E.Spotted.begins E.Spotted.spans entry self.old self.new) (λ _. Refused E.Spotted.begins E.Spotted.spans entry self.old self.new) }
+        ensures loan { self.new.table.ghost_name ≡ self.old.table.ghost_name }
     {
         let known = self.known();
         let i = self.index(&entry);

@@ -9,6 +9,7 @@ invariant-loop-i l =
     (l.i ≤ length l.row)
     × (node_list l.self ≡ link (drop (l.i - 1) l.row) (node_list l.initial.self))
     × RestKept l.initial.self l.self
+    × (l.self.table.ghost_name ≡ l.initial.self.table.ghost_name)
 
 abbrev pub decreases-loop-i : goal.decreases-loop-i
 decreases-loop-i l = l.i

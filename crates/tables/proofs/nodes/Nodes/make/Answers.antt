@@ -3,11 +3,11 @@ use Rattle.std.proofs.lemmas.List.{take_more_set}
 use Rattle.tree.specs.declared.node.Node.{Node}
 use Rattle.tables.proofs.nodes.Nodes.make.Goals as goal
 
-pub returns-then-number-ge-NODES : goal.returns-then-number-ge-NODES
-returns-then-number-ge-NODES c = let s = length-take c.args.self.now.count c.args.self.now.table.now in record { full = grind arith; same = refl }
+pub returns-then-number-ge-NODES-clause-told : goal.returns-then-number-ge-NODES-clause-told
+returns-then-number-ge-NODES-clause-told c = let s = length-take c.args.self.now.count c.args.self.now.table.now in record { full = grind arith; same = refl }
 
-pub returns : goal.returns
-returns c =
+pub returns-clause-told : goal.returns-clause-told
+returns-clause-told c =
     let xs = c.args.self.now.table.now in
     let n = c.args.self.now.count in
     let node : Node = record { class = c.args.class; value = c.args.value; first = c.args.first; next = 1024 } in
