@@ -55,14 +55,14 @@ module _ (r : Reader) (s : Sound r) (x : Word) where
           ∙ name_names_full (fixed r).limits (rest_of (tokens_of r)) (fixed r).ending bs (record { tables = tables_of r; rule = rule; level = l; outer = outer }) spot (omega arith) (names_over (text_of r) r.names names name_entry refl s.names_text m);
     }
 
-    module _ (names : Spots Name) (i : ℕ) (m : Numbered (λ e. e.place) (λ e. e.length) (record { place = x.place; length = x.length; root = 1024 }) r.names names i) where
+    module _ (names : Spots Name) (i : ℕ) (m : Numbered (λ e. e.place) (λ e. e.length) (record { place = x.place; length = x.length; root = 1024 }) r.names names i) (loan : names.table.ghost_name ≡ r.names.table.ghost_name) where
       few_names : length (with_name (word_spot (text_of r) x) (tables_of r).names) ≤ (fixed r).limits.names
       few_names = names_fit (text_of r) r.names names name_entry refl s.names_text i m
 
       pub name_nodes_over : (forest : Forest) (e : FullNodes) → MadeNone r.forest forest e
           → (depth : ℕ) → depth ≤ 32 → ItemRefused depth r (record { words = r.words; names = names; kinds = r.kinds; forest = forest }) (NodesFull e.limit)
       name_nodes_over forest e h depth d = record {
-        same = fixed_same r (record { words = r.words; names = names; kinds = r.kinds; forest = forest }) refl refl m.kept.limit (kept_spots r.names names m.kept) refl refl h.place;
+        same = fixed_same r (record { words = r.words; names = names; kinds = r.kinds; forest = forest }) refl refl m.kept.limit (kept_spots r.names names m.kept loan) refl refl h.place;
         told =
             λ bs deep rule l outer.
             fronted bs rule outer r (name spot) (rest_of (tokens_of r)) l name_first
@@ -75,7 +75,7 @@ module _ (r : Reader) (s : Sound r) (x : Word) where
         q = record { words = after; names = names; kinds = r.kinds; forest = forest }
 
         same : fixed (record { words = after; names = names; kinds = r.kinds; forest = forest }) ≡ fixed r
-        same = fixed_same r q a.text_same a.end_same m.kept.limit (kept_spots r.names names m.kept) refl refl h.place
+        same = fixed_same r q a.text_same a.end_same m.kept.limit (kept_spots r.names names m.kept loan) refl refl h.place
 
         tables : (make_name (word_spot (text_of r) x) (tables_of r)).tables ≡ tables_of (record { words = after; names = names; kinds = r.kinds; forest = forest })
         tables =
@@ -120,14 +120,14 @@ module _ (r : Reader) (s : Sound r) (x : Word) where
           ∙ terminal_kinds_full (fixed r).limits (rest_of (tokens_of r)) (fixed r).ending bs (record { tables = tables_of r; rule = rule; level = l; outer = outer }) first.sort spot (omega arith) (fits r s) first.spelt (kinds_over (text_of r) r.kinds kinds kind_entry s.kinds_text m);
     }
 
-    module _ (kinds : Spots Spelling) (i : ℕ) (m : Numbered (λ e. e.place) (λ e. e.length) (record { place = x.place; length = x.length }) r.kinds kinds i) where
+    module _ (kinds : Spots Spelling) (i : ℕ) (m : Numbered (λ e. e.place) (λ e. e.length) (record { place = x.place; length = x.length }) r.kinds kinds i) (loan : kinds.table.ghost_name ≡ r.kinds.table.ghost_name) where
       few_kinds : length (with_kind (word_spot (text_of r) x) (tables_of r).kinds) ≤ (fixed r).limits.kinds
       few_kinds = kinds_fit (text_of r) r.kinds kinds kind_entry s.kinds_text i m
 
       pub token_nodes_over : (forest : Forest) (e : FullNodes) → MadeNone r.forest forest e
           → (depth : ℕ) → depth ≤ 32 → ItemRefused depth r (record { words = r.words; names = r.names; kinds = kinds; forest = forest }) (NodesFull e.limit)
       token_nodes_over forest e h depth d = record {
-        same = fixed_same r (record { words = r.words; names = r.names; kinds = kinds; forest = forest }) refl refl refl refl m.kept.limit (kept_spots r.kinds kinds m.kept) h.place;
+        same = fixed_same r (record { words = r.words; names = r.names; kinds = kinds; forest = forest }) refl refl refl refl m.kept.limit (kept_spots r.kinds kinds m.kept loan) h.place;
         told =
             λ bs deep rule l outer.
             fronted bs rule outer r (terminal first.sort spot) (rest_of (tokens_of r)) l first.first
@@ -140,7 +140,7 @@ module _ (r : Reader) (s : Sound r) (x : Word) where
         q_token = record { words = after; names = r.names; kinds = kinds; forest = forest }
 
         token_same : fixed (record { words = after; names = r.names; kinds = kinds; forest = forest }) ≡ fixed r
-        token_same = fixed_same r q_token a.text_same a.end_same refl refl m.kept.limit (kept_spots r.kinds kinds m.kept) h.place
+        token_same = fixed_same r q_token a.text_same a.end_same refl refl m.kept.limit (kept_spots r.kinds kinds m.kept loan) h.place
 
         token_tables : (make_token (word_spot (text_of r) x) (tables_of r)).tables ≡ tables_of (record { words = after; names = r.names; kinds = kinds; forest = forest })
         token_tables =

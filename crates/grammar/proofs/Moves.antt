@@ -40,8 +40,8 @@ fixed_same r q text e names_limit names kinds_limit kinds nodes =
     ∙ ap (λ x. fixed_by (text_of r) (words.ending r.words) r.names.limit (spots_place r.names) r.kinds.limit (spots_place r.kinds) x) nodes
 
 -- a table of records that is as it was but for its records
-pub kept_spots : {E : Type 0} (t u : Spots E) → RestKept t u → spots_place u ≡ spots_place t
-kept_spots t u k = same_place (length u.table.now) (length t.table.now) u.table.ghost_name t.table.ghost_name k.long k.lender
+pub kept_spots : {E : Type 0} (t u : Spots E) → RestKept t u → u.table.ghost_name ≡ t.table.ghost_name → spots_place u ≡ spots_place t
+kept_spots t u k loan = same_place (length u.table.now) (length t.table.now) u.table.ghost_name t.table.ghost_name k.long loan
 
 -- the tables of a reader are within their limits
 pub fits : (r : Reader) → Sound r → Fits (fixed r).limits (tables_of r)

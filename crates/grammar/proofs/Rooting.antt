@@ -1,15 +1,15 @@
 -- Trees that grow from their roots.
-use Rattle.std.proofs.Common.{◌≡◌, ℕ, zero, suc, ◌+◌, ◌-◌, ◌<◌, ◌≤◌, List, [], ◌∷◌, ◌++◌, length, take, drop, replicate, Ok, Err, Result, sym, ap, ◌∙◌, subst, arith, length-append, length-drop, length-take, MatchResult}
+use Rattle.std.proofs.Common.{◌≡◌, ℕ, zero, suc, ◌+◌, ◌-◌, ◌<◌, ◌≤◌, List, [], ◌∷◌, ◌++◌, length, take, drop, replicate, sym, ap, ◌∙◌, subst, arith, length-append, length-drop, length-take, min}
 use Rattle.std.proofs.lemmas.List.{drop-drop, drop-replicate}
 use Rattle.notation.specs.Statements.{Each}
 use Rattle.notation.specs.Tables.{link}
 use Rattle.notation.proofs.Grows.{length_link, length_add}
-use Rattle.tables.specs.Nodes.{node_list, zero_node, node_limit, RestKept, NodeMade, IsNodesFull, RowEnded}
+use Rattle.tables.specs.Nodes.{node_list, zero_node, node_limit, RestKept, NodeMade, IsNodesFull, RowEnded, RowRefused}
 use Rattle.grammar.specs.declared.refusal.NodesFull.{NodesFull}
 use Rattle.tables.specs.declared.nodes.Nodes.{Nodes}
 use Rattle.tree.specs.declared.class.Class.{Class}
 use Rattle.tree.specs.declared.class.Class.TheVariants.{Empty}
-use Rattle.grammar.specs.Forest.{nodes_of, roots_of, places_of, Place, place_of, Healthy, MadeOne, MadeNone, Pushed, Reduced}
+use Rattle.grammar.specs.Forest.{nodes_of, roots_of, places_of, Place, place_of, Healthy, MadeOne, MadeNone, Pushed, Reduced, Unreduced}
 use Rattle.grammar.specs.Parts.{Forest}
 
 pub each_take : {X : Type 0} (P : X → Type 0) (n : ℕ) (xs : List X) → Each P xs → Each P (take n xs)
@@ -44,11 +44,11 @@ still_clean before after kept clean =
 pub same_place : (m n a b : ℕ) → m ≡ n → a ≡ b → ◌≡◌ {A = Place} (record { long = m; whose = a }) (record { long = n; whose = b })
 same_place m n a b e f = ap (λ x. record { long = x; whose = a }) e ∙ ap (λ x. record { long = n; whose = x }) f
 
-kept_place : (before after : Forest) → RestKept before.nodes after.nodes → place_of after ≡ place_of before
-kept_place before after k = same_place (places_of after) (places_of before) after.nodes.table.ghost_name before.nodes.table.ghost_name k.long k.lender
+kept_place : (before after : Forest) → RestKept before.nodes after.nodes → after.nodes.table.ghost_name ≡ before.nodes.table.ghost_name → place_of after ≡ place_of before
+kept_place before after k loan = same_place (places_of after) (places_of before) after.nodes.table.ghost_name before.nodes.table.ghost_name k.long loan
 
-pub made : (c : Class) (v f : ℕ) (before after : Forest) (r : Result ℕ NodesFull) → Healthy before → roots_of after ≡ roots_of before → MatchResult r (NodeMade c v f before.nodes after.nodes) (IsNodesFull before.nodes after.nodes) → MatchResult r (MadeOne c v f before after) (MadeNone before after)
-made c v f before after (Ok n) well same m =
+pub made_one : (c : Class) (v f : ℕ) (before after : Forest) (n : ℕ) → Healthy before → roots_of after ≡ roots_of before → NodeMade c v f before.nodes after.nodes n → after.nodes.table.ghost_name ≡ before.nodes.table.ghost_name → MadeOne c v f before after n
+made_one c v f before after n well same m loan =
     let grown = ap length m.nodes ∙ length_add c v f (nodes_of before) in
     let long = m.kept.long in
     let fits = m.fits in
@@ -58,9 +58,11 @@ made c v f before after (Ok n) well same m =
       same_roots = same;
       room = omega arith;
       healthy = record { fit = omega arith; few = omega (arith, ap length same, well.few); small = subst Small (sym same) well.small; clean = still_clean before.nodes after.nodes m.kept well.clean };
-      place = kept_place before after m.kept;
+      place = kept_place before after m.kept loan;
     }
-made c v f before after (Err e) well same m = record { full = m.full; told = m.told; place = ap (λ t. record { long = length t.table.now; whose = t.table.ghost_name }) m.same }
+
+pub made_none : (before after : Forest) (limit : ℕ) → IsNodesFull before.nodes after.nodes → limit ≡ node_limit after.nodes → MadeNone before after (record { limit = limit })
+made_none before after limit m is = record { full = m.full; told = is ∙ ap node_limit m.same; place = ap (λ t. record { long = length t.table.now; whose = t.table.ghost_name }) m.same }
 
 pub pushed_root : (n : ℕ) (before after : Forest) → Healthy before → length (roots_of before) < length (nodes_of before) → n < 1024 → after.nodes ≡ before.nodes → roots_of after ≡ roots_of before ++ n ∷ [] → Pushed n before after
 pushed_root n before after well own small same more =
@@ -99,8 +101,8 @@ fitting c from (x ∷ y ∷ rest) before after n few fit small m =
     record { fits = fits; own = omega arith; small = omega arith }
 
 -- the row as it is lent
-pub reduced : (c : Class) (from : ℕ) (row : List ℕ) (before after : Forest) (n : ℕ) → Healthy before → from ≤ length (roots_of before) → row ≡ drop from (roots_of before) → roots_of after ≡ take from (roots_of before) → RowEnded c row before.nodes after.nodes n → Reduced c from before after n
-reduced c from row before after n well within is fewer ended =
+pub reduced : (c : Class) (from : ℕ) (row : List ℕ) (before after : Forest) (n : ℕ) → Healthy before → from ≤ length (roots_of before) → row ≡ drop from (roots_of before) → roots_of after ≡ take from (roots_of before) → RowEnded c row before.nodes after.nodes n → after.nodes.table.ghost_name ≡ before.nodes.table.ghost_name → Reduced c from before after n
+reduced c from row before after n well within is fewer ended loan =
     let rest = drop from (roots_of before) in
     let m : RowEnded c rest before.nodes after.nodes n = subst (λ r. RowEnded c r before.nodes after.nodes n) is ended in
     let few = well.few in
@@ -118,5 +120,10 @@ reduced c from row before after n well within is fewer ended =
       own = omega arith;
       small = f.small;
       healthy = record { fit = omega arith; few = omega arith; small = subst Small (sym fewer) (each_take (λ k. k < 1024) from (roots_of before) well.small); clean = still_clean before.nodes after.nodes m.kept well.clean };
-      place = kept_place before after m.kept;
+      place = kept_place before after m.kept loan;
     }
+
+pub unreduced : (c : Class) (from : ℕ) (row : List ℕ) (before after : Forest) (limit : ℕ) → row ≡ drop from (roots_of before) → RowRefused c row before.nodes after.nodes → limit ≡ node_limit after.nodes → after.nodes.table.ghost_name ≡ before.nodes.table.ghost_name → Unreduced c from before after (record { limit = limit })
+unreduced c from row before after limit is refused told loan =
+    let m : RowRefused c (drop from (roots_of before)) before.nodes after.nodes = subst (λ r. RowRefused c r before.nodes after.nodes) is refused in
+    record { full = m.full; told = told ∙ ap (min 1024) m.kept.long; place = kept_place before after m.kept loan }

@@ -108,7 +108,7 @@ module _ (r : Reader) (x : Word) (first : WordTold r.words x) where
       told = ready_front r (name spot) rest name_front ∙ head_names_full (fixed r).limits rest (fixed r).ending (tables_of r) spot (names_over (text_of r) r.names names entry refl s.names_text m);
     }
 
-    module _ (names : Spots Name) (i : ℕ) (m : Numbered (λ e. e.place) (λ e. e.length) (record { place = x.place; length = x.length; root = 1024 }) r.names names i) where
+    module _ (names : Spots Name) (i : ℕ) (m : Numbered (λ e. e.place) (λ e. e.length) (record { place = x.place; length = x.length; root = 1024 }) r.names names i) (loan : names.table.ghost_name ≡ r.names.table.ghost_name) where
       few : length (with_name (word_spot (text_of r) x) (tables_of r).names) ≤ (fixed r).limits.names
       few = names_fit (text_of r) r.names names entry refl s.names_text i m
 
@@ -119,14 +119,14 @@ module _ (r : Reader) (x : Word) (first : WordTold r.words x) where
 
       pub head_again : ruled i (records names) ≡ true → HeadRefused r (record { words = r.words; names = names; kinds = r.kinds; forest = r.forest }) (refusal_is.SecondRule x.place)
       head_again h = record {
-        same = fixed_same r (record { words = r.words; names = names; kinds = r.kinds; forest = r.forest }) refl refl m.kept.limit (kept_spots r.names names m.kept) refl refl refl;
+        same = fixed_same r (record { words = r.words; names = names; kinds = r.kinds; forest = r.forest }) refl refl m.kept.limit (kept_spots r.names names m.kept loan) refl refl refl;
         told = ready_front r (name spot) rest name_front ∙ head_second_rule (fixed r).limits rest (fixed r).ending (tables_of r) spot (fits r s) few (sym has_it ∙ h);
       }
 
       pub head_read : ruled i (records names) ≡ false → (after : Words) (a : Advanced r.words after) → HeadRead r (record { words = after; names = names; kinds = r.kinds; forest = r.forest }) i
       head_read h after a =
           let q : Reader = record { words = after; names = names; kinds = r.kinds; forest = r.forest } in
-          let same : fixed q ≡ fixed r = fixed_same r q a.text_same a.end_same m.kept.limit (kept_spots r.names names m.kept) refl refl refl in
+          let same : fixed q ≡ fixed r = fixed_same r q a.text_same a.end_same m.kept.limit (kept_spots r.names names m.kept loan) refl refl refl in
           let tables : name_known spot (tables_of r) ≡ tables_of q =
           tables_same (with_name spot (tables_of r).names) (map (name_meant after.text.now) (records names)) (tables_of r).kinds (map (kind_meant after.text.now) (records r.kinds)) (nodes_of r.forest) (nodes_of r.forest)
           (sym (names_are (text_of r) r.names names entry refl s.names_text i m) ∙ ap (λ t. map (name_meant t) (records names)) (sym a.text_same))
@@ -155,7 +155,7 @@ module _ (r : Reader) (x : Word) (first : WordTold r.words x) where
           }
 
 -- a rule with its root
-module _ (m : Reader) (s : Sound m) (i n : ℕ) (small : n < 1024) (names : Spots Name) (list : records names ≡ rooted i n (records m.names)) (kept : RestKept m.names names) where
+module _ (m : Reader) (s : Sound m) (i n : ℕ) (small : n < 1024) (names : Spots Name) (list : records names ≡ rooted i n (records m.names)) (kept : RestKept m.names names) (loan : names.table.ghost_name ≡ m.names.table.ghost_name) where
   abbrev rooted_reader : Reader
   rooted_reader = record { words = m.words; names = names; kinds = m.kinds; forest = m.forest }
 
@@ -169,7 +169,7 @@ module _ (m : Reader) (s : Sound m) (i n : ℕ) (small : n < 1024) (names : Spot
 
   rooted_kept : Kept m (record { words = m.words; names = names; kinds = m.kinds; forest = m.forest })
   rooted_kept = record {
-    same = fixed_same m rooted_reader refl refl kept.limit (kept_spots m.names names kept) refl refl refl;
+    same = fixed_same m rooted_reader refl refl kept.limit (kept_spots m.names names kept loan) refl refl refl;
     sound = record {
       names_text = kept.text ∙ s.names_text;
       kinds_text = s.kinds_text;

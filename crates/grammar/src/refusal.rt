@@ -1,6 +1,6 @@
 // Why the text of a grammar is refused.
 ghost use Rattle.std.specs.Prelude.{◌≡◌};
-ghost use Rattle.grammar.specs.Refusals.{numbered as numbers, third, too-long, at_fault, nodes_full};
+ghost use Rattle.grammar.specs.Refusals.{numbered as numbers, third, too_long as told_too_long, at_fault, nodes_full};
 
 use token::{Fault, Numbered, TooLong};
 
@@ -83,7 +83,7 @@ impl Refusal {
 }
 
 impl From<TooLong> for Refusal {
-    ghost from_gives = { λ x r. r ≡ too-long x };
+    ghost from_gives = { λ x r. r ≡ told_too_long x };
 
     fn from(too_long: TooLong) -> Refusal {
         Refusal::TooLong(too_long)

@@ -29,11 +29,11 @@ returns-in-125 c = text_from_reads c.args.bytes.now (codes "}") (search rules) (
 pub returns-in-45 : goal.returns-in-45
 returns-in-45 c = text_from_reads c.args.bytes.now (codes "->") (search rules) (search rules)
 
-pub returns-in-87 : goal.returns-in-87
-returns-in-87 c = inl (text_from_reads c.args.bytes.now (codes "WORD") (search rules) (search rules))
+pub returns-in-WORD : goal.returns-in-WORD
+returns-in-WORD c = inl (text_from_reads c.args.bytes.now (codes "WORD") (search rules) (search rules))
 
-pub returns-in-78 : goal.returns-in-78
-returns-in-78 c = inr (inl (text_from_reads c.args.bytes.now (codes "NUMBER") (search rules) (search rules)))
+pub returns-in-NUMBER : goal.returns-in-NUMBER
+returns-in-NUMBER c = inr (inl (text_from_reads c.args.bytes.now (codes "NUMBER") (search rules) (search rules)))
 
-pub returns-in-83 : goal.returns-in-83
-returns-in-83 c = inr (inr (text_from_reads c.args.bytes.now (codes "STRING") (search rules) (search rules)))
+pub returns-in-STRING : goal.returns-in-STRING
+returns-in-STRING c = inr (inr (text_from_reads c.args.bytes.now (codes "STRING") (search rules) (search rules)))

@@ -6,10 +6,10 @@ use Rattle.grammar.proofs.parser.Parser.arrow.Goals as goal
 
 pub returns-then-ne : goal.returns-then-ne
 returns-then-ne c = λ names kinds nodes s.
-    let other : c.in-ok-word.word.piece ≡ Arrow → ⊥ = search rules in
-    arrow_misplaced (reader c.args.self.now names kinds nodes) c.in-ok-word.word c.in-ok-word.ensures other
+    let other : c.in_ok-word.word.piece ≡ Arrow → ⊥ = search rules in
+    arrow_misplaced (reader c.args.self.now names kinds nodes) c.in_ok-word.word c.in_ok-word.ensures other
 
 pub returns : goal.returns
 returns c = λ names kinds nodes s.
-    let same : c.in-ok-word.word.piece ≡ Arrow = search rules in
-    arrow_read (reader c.args.self.now names kinds nodes) c.in-ok-word.word c.in-ok-word.ensures s same c.advance.new.self c.advance.ensures
+    let same : c.in_ok-word.word.piece ≡ Arrow = search rules in
+    arrow_read (reader c.args.self.now names kinds nodes) c.in_ok-word.word c.in_ok-word.ensures s same c.advance.new.self c.advance.ensures

@@ -9,17 +9,17 @@ returns-then-ne c = λ kinds nodes s.
     let other : c.args.word.piece ≡ Name → ⊥ = search rules in
     head_misplaced (reader c.args.self.now c.args.names.now kinds nodes) c.args.word c.requires other
 
-pub returns-in-default : goal.returns-in-default
-returns-in-default c = λ kinds nodes s.
+pub returns-in_default : goal.returns-in_default
+returns-in_default c = λ kinds nodes s.
     let same : c.args.word.piece ≡ Name = search rules in
-    head_over (reader c.args.self.now c.args.names.now kinds nodes) c.args.word c.requires s same c.number.new.self c.in-default.ensures
+    head_over (reader c.args.self.now c.args.names.now kinds nodes) c.args.word c.requires s same c.number.new.self c.in_default.ensures.told
 
-pub returns-then-has-rule : goal.returns-then-has-rule
-returns-then-has-rule c = λ kinds nodes s.
+pub returns-then-has_rule : goal.returns-then-has_rule
+returns-then-has_rule c = λ kinds nodes s.
     let same : c.args.word.piece ≡ Name = search rules in
-    head_again (reader c.args.self.now c.args.names.now kinds nodes) c.args.word c.requires s same c.number.new.self c.in-Ok.name c.in-Ok.ensures (sym c.has_rule.ensures ∙ c.if-has-rule.true)
+    head_again (reader c.args.self.now c.args.names.now kinds nodes) c.args.word c.requires s same c.number.new.self c.in-Ok.name c.in-Ok.ensures.told c.number.ensures.loan (sym c.has_rule.ensures ∙ c.if-has_rule.true)
 
 pub returns : goal.returns
 returns c = λ kinds nodes s.
     let same : c.args.word.piece ≡ Name = search rules in
-    head_read (reader c.args.self.now c.args.names.now kinds nodes) c.args.word c.requires s same c.number.new.self c.in-Ok.name c.in-Ok.ensures (sym c.has_rule.ensures ∙ c.if-has-rule.false) c.advance.new.self c.advance.ensures
+    head_read (reader c.args.self.now c.args.names.now kinds nodes) c.args.word c.requires s same c.number.new.self c.in-Ok.name c.in-Ok.ensures.told c.number.ensures.loan (sym c.has_rule.ensures ∙ c.if-has_rule.false) c.advance.new.self c.advance.ensures

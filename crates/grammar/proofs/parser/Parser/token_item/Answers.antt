@@ -6,21 +6,21 @@ use Rattle.grammar.proofs.Finishing.{passed_on}
 use Rattle.grammar.proofs.Items.{token_over, token_nodes_over, token_read}
 use Rattle.grammar.proofs.parser.Parser.token_item.Goals as goal
 
-pub returns-in-default : goal.returns-in-default
-returns-in-default c = λ names depth s d. token_over (reader c.args.self.now names c.args.kinds.now c.args.nodes.now) s c.args.word c.requires.0 c.number.new.self c.in-default.ensures depth d
+pub returns-in_default : goal.returns-in_default
+returns-in_default c = λ names depth s d. token_over (reader c.args.self.now names c.args.kinds.now c.args.nodes.now) s c.args.word c.requires.0 c.number.new.self c.in_default.ensures.told depth d
 
-pub overflow-cast-kind : goal.overflow-cast-kind
-overflow-cast-kind c = let small = number_small _ _ _ c.args.kinds.now c.number.new.self c.in-Ok.kind 120 c.in-Ok.ensures c.requires.1 in omega arith
+pub overflow_cast-kind : goal.overflow_cast-kind
+overflow_cast-kind c = let small = number_small _ _ _ c.args.kinds.now c.number.new.self c.in-Ok.kind 120 c.in-Ok.ensures.told c.requires.1 in omega arith
 
-pub overflow-add-kind : goal.overflow-add-kind
-overflow-add-kind c = let small = number_small _ _ _ c.args.kinds.now c.number.new.self c.in-Ok.kind 120 c.in-Ok.ensures c.requires.1 in omega arith
+pub overflow_add-kind : goal.overflow_add-kind
+overflow_add-kind c = let small = number_small _ _ _ c.args.kinds.now c.number.new.self c.in-Ok.kind 120 c.in-Ok.ensures.told c.requires.1 in omega arith
 
-pub returns-in-err-node : goal.returns-in-err-node
-returns-in-err-node c = λ names depth s d.
+pub returns-in_err-node : goal.returns-in_err-node
+returns-in_err-node c = λ names depth s d.
     let w = c.args.self.now.waiting in
-    passed_on c.from-residual.result (NodesFull c.in-err-node.field-0.0.limit) _ _ c.from-residual.ensures.1 (token_nodes_over (reader c.args.self.now names c.args.kinds.now c.args.nodes.now) s c.args.word c.requires.0 c.number.new.self c.in-Ok.kind c.in-Ok.ensures (forest_of c.make.new.nodes w) c.in-err-node.field-0.0 (c.in-err-node.ensures w s.healthy) depth d)
+    passed_on c.from_residual.result (NodesFull c.in_err-node.field-0.0.limit) _ _ c.from_residual.ensures.1 (token_nodes_over (reader c.args.self.now names c.args.kinds.now c.args.nodes.now) s c.args.word c.requires.0 c.number.new.self c.in-Ok.kind c.in-Ok.ensures.told c.number.ensures.loan (forest_of c.make.new.nodes w) c.in_err-node.field-0.0 (c.in_err-node.ensures w s.healthy) depth d)
 
 pub returns : goal.returns
 returns c = λ names depth s d.
     let w = c.args.self.now.waiting in
-    token_read (reader c.args.self.now names c.args.kinds.now c.args.nodes.now) s c.args.word c.requires.0 c.number.new.self c.in-Ok.kind c.in-Ok.ensures (forest_of c.make.new.nodes w) c.in-ok-node.node (c.in-ok-node.ensures w s.healthy) c.advance.new.self c.advance.ensures depth d
+    token_read (reader c.args.self.now names c.args.kinds.now c.args.nodes.now) s c.args.word c.requires.0 c.number.new.self c.in-Ok.kind c.in-Ok.ensures.told c.number.ensures.loan (forest_of c.make.new.nodes w) c.in_ok-node.node (c.in_ok-node.ensures w s.healthy) c.advance.new.self c.advance.ensures depth d
