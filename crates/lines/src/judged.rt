@@ -1,6 +1,6 @@
 // The line of a grammar's text, as it is judged.
 ghost use Rattle.std.specs.Prelude.{◌≡◌, ◌++◌, IfOk, OnOk};
-ghost use Rattle.lines.specs.Judged.{code_text, told_text, sizes_text, grammar_line};
+ghost use Rattle.lines.specs.GrammarLines.{code_text, told_text, sizes_text, grammar_line};
 ghost use Rattle.grammar.specs.Refusals.{numbered};
 
 use crate::put::{put, put_counted, put_labelled, put_refused};

@@ -8,7 +8,7 @@ use Rattle.grammar.specs.Source.{grammar_tokens, grammar_ending}
 use Rattle.grammar.specs.declared.judging.Counts.{Counts}
 use Rattle.grammar.specs.declared.refusal.Refusal.{Refusal}
 use Rattle.grammar.specs.declared.refusal.Refusal.TheVariants.{TooLong, Fault, Misplaced, TooDeep, Misspelt, NamesFull, KindsFull, NodesFull, SecondRule, NoRule}
-use Rattle.lines.specs.Judged.{told_text, sizes_text, outcome_text, standard_limits, grammar_line}
+use Rattle.lines.specs.GrammarLines.{told_text, sizes_text, outcome_text, standard_limits, grammar_line}
 use Rattle.notation.proofs.Judging.{right_is_read, wrong_is_refused}
 use Rattle.notation.specs.Judging.{Right, Wrong}
 use Rattle.notation.specs.Reading.{Limits, Refusal as ReadingRefusal, faulty, misplaced, too_deep, misspelt, names_full, kinds_full, nodes_full, second_rule, no_rule, numbered as reading_numbered, Outcome, read, refused, reading}
