@@ -499,7 +499,7 @@ impl Accepted {
     }
 
     // The tables hold these entries, and 0 after them.
-    fn names_are(&self, table: &[Name]) -> Result<(), Fail> {
+    fn names_are(&self, rt: &impl Abort, table: &[Name]) {
         for (i, name) in table.iter().enumerate() {
             let expected = match self.names.get(i) {
                 Some((place, length, root)) => Name {
@@ -509,12 +509,11 @@ impl Accepted {
                 },
                 None => ZERO_NAME,
             };
-            assert_eq!(*name, expected);
+            assert_eq!(rt; *name, expected);
         }
-        Ok(())
     }
 
-    fn kinds_are(&self, table: &[Spelling]) -> Result<(), Fail> {
+    fn kinds_are(&self, rt: &impl Abort, table: &[Spelling]) {
         for (i, kind) in table.iter().enumerate() {
             let expected = match self.kinds.get(i) {
                 Some((place, length)) => Spelling {
@@ -523,12 +522,11 @@ impl Accepted {
                 },
                 None => ZERO_KIND,
             };
-            assert_eq!(*kind, expected);
+            assert_eq!(rt; *kind, expected);
         }
-        Ok(())
     }
 
-    fn nodes_are(&self, table: &[Node]) -> Result<(), Fail> {
+    fn nodes_are(&self, rt: &impl Abort, table: &[Node]) {
         for (i, node) in table.iter().enumerate() {
             let expected = match self.nodes.get(i) {
                 Some((class, value, first, next)) => Node {
@@ -539,29 +537,29 @@ impl Accepted {
                 },
                 None => ZERO_NODE,
             };
-            assert_eq!(*node, expected);
+            assert_eq!(rt; *node, expected);
         }
-        Ok(())
     }
 
-    fn is_accepted(&self) -> Result<(), Fail> {
+    fn is_accepted(&self, rt: &impl Abort) -> Result<(), Fail> {
         let mut names = [OLD_NAME; NAMES];
         let mut kinds = [OLD_KIND; KINDS];
         let mut nodes = [OLD_NODE; NODES];
         let counts = judge(self.text, &mut names, &mut kinds, &mut nodes)?;
-        assert_eq!(counts, self.counts());
-        self.names_are(&names)?;
-        self.kinds_are(&kinds)?;
-        self.nodes_are(&nodes)
+        assert_eq!(rt; counts, self.counts());
+        self.names_are(rt, &names);
+        self.kinds_are(rt, &kinds);
+        self.nodes_are(rt, &nodes);
+        Ok(())
     }
 }
 
 #[test]
-fn grammars() -> Result<(), Fail> {
+fn grammars(rt: HostRuntime) -> Result<(), Fail> {
     for grammar in &ACCEPTED {
-        grammar.is_accepted()?;
+        grammar.is_accepted(&rt)?;
     }
-    JOB.is_accepted()
+    JOB.is_accepted(&rt)
 }
 
 #[test]
@@ -573,7 +571,8 @@ fn the_draft_of_the_job(rt: HostRuntime) -> Result<(), Fail> {
     let draft = Draft::make(JOB.text, &names, &kinds, &nodes, counts);
     assert_eq!(rt; draft.shape(), JOB.counts());
     assert_eq!(rt; draft.nodes().len(), 22);
-    JOB.nodes_are(draft.nodes())
+    JOB.nodes_are(&rt, draft.nodes());
+    Ok(())
 }
 
 // The first part of a text, the second and the third so many times each, and the last.

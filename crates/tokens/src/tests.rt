@@ -219,9 +219,9 @@ fn ends<S: TokenSource>(rt: &impl Abort, source: &mut S, ending: Ending) -> Resu
     };
     assert_eq!(rt; source.look(), next);
     match source.take() {
-        Ok(_) => Err(Fail::new("a token after the ending")),
-        Err(refusal) => check_eq(refusal.place, place),
-    }?;
+        Ok(_) => return Err(Fail::new("a token after the ending")),
+        Err(refusal) => assert_eq!(rt; refusal.place, place),
+    }
     assert_eq!(rt; source.look(), next);
     Ok(())
 }
@@ -373,7 +373,7 @@ fn bytes(rt: HostRuntime) -> Result<(), Fail> {
     }) else {
         return Err(Fail::new("no bytes"));
     };
-    assert!(rt; part == b"opy");
+    assert!(rt; part == b"opy".as_slice());
     assert!(rt;
         source
             .bytes(Token {
