@@ -1,5 +1,5 @@
 -- Marks that end sequences and branches.
-use Rattle.std.proofs.Common.{◌≡◌, ℕ, ◌+◌, ◌<◌, ◌≤◌, List, [], ◌∷◌, ◌++◌, map, length, take, drop, Some, None, Option, sym, refl, ap, ◌∙◌, arith, length-append}
+use Rattle.std.proofs.Common.{◌≡◌, ℕ, ◌<◌, ◌≤◌, List, [], ◌∷◌, ◌++◌, map, length, take, drop, Some, None, Option, sym, refl, ap, ◌∙◌, arith, length-append}
 use Rattle.grammar.proofs.Items.{rest_shorter}
 use Rattle.grammar.proofs.Moves.{fixed_same, fits, moved, fronted, tables_same}
 use Rattle.grammar.specs.Bodies.{closing_token, level_at, MarkFirst, BranchRead, BranchRefused, EndedGoes, EndedRefused, Closed, Unclosed}

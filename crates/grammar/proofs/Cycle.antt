@@ -1,5 +1,5 @@
 -- Branches, sequences and items, as they are read one after another.
-use Rattle.std.proofs.Common.{◌≡◌, ℕ, ◌+◌, ◌≤◌, List, [], ◌∷◌, ◌++◌, length, take, drop, Some, None, Ok, Err, Option, Result, sym, refl, ap, ◌∙◌, subst, arith, length-append, MatchResult}
+use Rattle.std.proofs.Common.{◌≡◌, ℕ, ◌≤◌, List, [], ◌∷◌, ◌++◌, length, take, drop, Some, None, Ok, Err, Option, Result, sym, refl, ap, ◌∙◌, subst, arith, length-append, MatchResult}
 use Rattle.std.proofs.lemmas.List.{append-nil, append_assoc, take_all, take-append-le, drop_all, drop-append-le}
 use Rattle.grammar.specs.Bodies.{MarkFirst, level_at, BranchRead, BranchRefused, FitsDepth, EndedGoes, EndedRefused, Closed, Unclosed, SequenceRead}
 use Rattle.grammar.specs.Forest.{roots_of}

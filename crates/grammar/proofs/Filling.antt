@@ -11,10 +11,9 @@ use Rattle.grammar.specs.Parts.{Reader}
 use Rattle.grammar.specs.Reader.{text_of, tokens_of, tables_of, fixed, Clean, zero_name, zero_spelling}
 use Rattle.grammar.specs.Rules.{at_rule, HeadRefused, AllRead}
 use Rattle.grammar.specs.Source.{source_token, sorted, ending_meant, scanned, grammar_tokens, grammar_ending}
-use Rattle.grammar.specs.Words as words
 use Rattle.grammar.specs.declared.judging.Counts.{Counts}
 use Rattle.grammar.specs.declared.refusal.Refusal.{Refusal}
-use Rattle.notation.specs.Reading.{read, reading, run}
+use Rattle.notation.specs.Reading.{read, run}
 use Rattle.notation.specs.Standing.{ready}
 use Rattle.notation.specs.Tables.{no_tables}
 use Rattle.notation.specs.Tokens.{sort}

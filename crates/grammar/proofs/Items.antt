@@ -5,7 +5,6 @@ use Rattle.grammar.proofs.Moves.{fixed_same, kept_spots, fits, moved, fronted, t
 use Rattle.grammar.specs.Forest.{nodes_of, MadeOne, MadeNone}
 use Rattle.grammar.specs.Reader.{text_of, tokens_of, tables_of, fixed, zero_name, zero_spelling, Sound, NamedFirst, SpellingFirst, TerminalFirst, NodeRead, ItemRefused}
 use Rattle.grammar.specs.Words.{word_spot, piece_token, rest_of, Advanced}
-use Rattle.grammar.specs.Words as words
 use Rattle.grammar.specs.Parts.{Forest}
 use Rattle.grammar.specs.Parts.{Reader}
 use Rattle.grammar.specs.declared.refusal.Refusal.TheVariants.{Misspelt, NamesFull, KindsFull, NodesFull}

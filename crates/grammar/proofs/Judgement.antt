@@ -1,7 +1,7 @@
 -- From what a reading comes to, to what judging says.
-use Rattle.std.proofs.Common.{◌≡◌, ℕ, ◌≤◌, min, ◌⊎◌, List, length, replicate, sym, ap, ◌∙◌, subst, ⊎_elim}
+use Rattle.std.proofs.Common.{◌≡◌, ℕ, ◌≤◌, min, List, length, replicate, sym, ap, ◌∙◌, subst, ⊎_elim}
 use Rattle.grammar.specs.Filled.{outcome, Filled, WhyNot, Unfilled}
-use Rattle.grammar.specs.Judged.{Lent, lent, limits_of, held, AsLong, Accepted, wiped, RefusedFor, RefusedRight, Rejected}
+use Rattle.grammar.specs.Judged.{Lent, lent, limits_of, held, AsLong, Accepted, RefusedFor, RefusedRight, Rejected}
 use Rattle.grammar.specs.Reader.{zero_name, zero_spelling}
 use Rattle.grammar.specs.Refusals.{RefusedAs}
 use Rattle.grammar.specs.Source.{grammar_tokens, grammar_ending}

@@ -61,8 +61,8 @@ made_one c v f before after n well same m loan =
       place = kept_place before after m.kept loan;
     }
 
-pub made_none : (before after : Forest) (limit : ℕ) → IsNodesFull before.nodes after.nodes → limit ≡ node_limit after.nodes → MadeNone before after (record { limit = limit })
-made_none before after limit m is = record { full = m.full; told = is ∙ ap node_limit m.same; place = ap (λ t. record { long = length t.table.now; whose = t.table.ghost_name }) m.same }
+pub made_none : (before after : Forest) (e : NodesFull) → IsNodesFull before.nodes after.nodes → e.limit ≡ node_limit after.nodes → MadeNone before after e
+made_none before after e m is = record { full = m.full; told = is ∙ ap node_limit m.same; place = ap (λ t. record { long = length t.table.now; whose = t.table.ghost_name }) m.same }
 
 pub pushed_root : (n : ℕ) (before after : Forest) → Healthy before → length (roots_of before) < length (nodes_of before) → n < 1024 → after.nodes ≡ before.nodes → roots_of after ≡ roots_of before ++ n ∷ [] → Pushed n before after
 pushed_root n before after well own small same more =
@@ -123,7 +123,7 @@ reduced c from row before after n well within is fewer ended loan =
       place = kept_place before after m.kept loan;
     }
 
-pub unreduced : (c : Class) (from : ℕ) (row : List ℕ) (before after : Forest) (limit : ℕ) → row ≡ drop from (roots_of before) → RowRefused c row before.nodes after.nodes → limit ≡ node_limit after.nodes → after.nodes.table.ghost_name ≡ before.nodes.table.ghost_name → Unreduced c from before after (record { limit = limit })
-unreduced c from row before after limit is refused told loan =
+pub unreduced : (c : Class) (from : ℕ) (row : List ℕ) (before after : Forest) (e : NodesFull) → row ≡ drop from (roots_of before) → RowRefused c row before.nodes after.nodes → e.limit ≡ node_limit after.nodes → after.nodes.table.ghost_name ≡ before.nodes.table.ghost_name → Unreduced c from before after e
+unreduced c from row before after e is refused told loan =
     let m : RowRefused c (drop from (roots_of before)) before.nodes after.nodes = subst (λ r. RowRefused c r before.nodes after.nodes) is refused in
     record { full = m.full; told = told ∙ ap (min 1024) m.kept.long; place = kept_place before after m.kept loan }

@@ -9,7 +9,6 @@ use Rattle.grammar.specs.Bodies.{Closed, Unclosed, with_items, SequenceOn}
 use Rattle.grammar.specs.Forest.{nodes_of, roots_of, Pushed}
 use Rattle.grammar.specs.Reader.{text_of, tokens_of, tables_of, fixed, Sound, standing, NodeRead, ItemRefused}
 use Rattle.grammar.specs.Words.{bracket, piece_token, word_spot, rest_of, WordTold, Advanced}
-use Rattle.grammar.specs.Words as words
 use Rattle.grammar.specs.Parts.{Forest}
 use Rattle.grammar.specs.declared.piece.Bracket.{Bracket as BracketOf}
 use Rattle.grammar.specs.declared.piece.Piece.{Piece}

@@ -17,7 +17,7 @@ use Rattle.notation.specs.Numbering.{Level, one_more}
 use Rattle.notation.specs.Reading.{Limits, Levels, Outcome, bad_spelling, run}
 use Rattle.notation.specs.Standing.{ready, inside}
 use Rattle.notation.specs.Tables.{Tables}
-use Rattle.notation.specs.Tokens.{Bracket, Terminal, Token, name, terminal, Ending}
+use Rattle.notation.specs.Tokens.{Bracket, Terminal, Token, terminal, Ending}
 use Rattle.tables.specs.Meant.{tables_meant}
 use Rattle.tables.specs.Records.{records, room}
 use Rattle.tables.specs.declared.name.Name.{Name}

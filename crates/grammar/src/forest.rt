@@ -4,12 +4,22 @@ ghost use Rattle.std.specs.Prelude.{◌≡◌, ◌<◌, ◌≤◌, length, Match
 ghost use Rattle.grammar.specs.Forest.{roots_of, nodes_of, Healthy, MadeOne, MadeNone, Reduced, Unreduced, BranchEnded, BranchFull, Bracketed, Unbracketed, Finished, Unfinished};
 ghost use Rattle.grammar.specs.Parts.{forest_of};
 ghost use Rattle.grammar.specs.declared.waiting.Waiting.{Waiting as Roots};
+ghost use Rattle.tables.specs.Nodes.{node_limit};
 
 use crate::piece::Bracket;
 use crate::refusal::NodesFull;
 use crate::waiting::Waiting;
 use tables::{Full, Nodes};
 use tree::Class;
+
+// What is told where no place is left for a node.
+fn full(nodes: &Nodes<'_>) -> NodesFull
+    ensures { result.limit ≡ node_limit nodes.now }
+{
+    NodesFull {
+        limit: nodes.limit(),
+    }
+}
 
 // One more node.
 pub(crate) fn make(
@@ -22,9 +32,7 @@ pub(crate) fn make(
 {
     match nodes.make(class, value, first) {
         Ok(node) => Ok(node),
-        Err(Full) => Err(NodesFull {
-            limit: nodes.limit(),
-        }),
+        Err(Full) => Err(full(nodes)),
     }
 }
 
@@ -43,9 +51,7 @@ fn reduce(
             waiting.truncate(from);
             Ok(node)
         }
-        Err(_) => Err(NodesFull {
-            limit: nodes.limit(),
-        }),
+        Err(Full) => Err(full(nodes)),
     }
 }
 

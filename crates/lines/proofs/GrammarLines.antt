@@ -1,5 +1,5 @@
 -- The line of a grammar's text, from what judging it says.
-use Rattle.std.proofs.Common.{◌≡◌, ℕ, ◌≤◌, ltb, List, [], ◌∷◌, ◌++◌, map, length, take, IfOk, Result, sym, ap, ◌∙◌, subst, length-take-le}
+use Rattle.std.proofs.Common.{◌≡◌, ℕ, ◌≤◌, ltb, List, ◌++◌, map, length, take, IfOk, Result, sym, ap, ◌∙◌, subst, length-take-le}
 use lib.ListN.{length-map}
 use Rattle.std.proofs.lemmas.Bool.{cond-true, cond-false, lt-ltb, le-ltb}
 use Rattle.grammar.specs.Judged.{Lent, limits_of, held, AsLong, Accepted, RefusedFor, RefusedRight, Rejected}

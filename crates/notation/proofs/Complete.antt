@@ -1,5 +1,5 @@
 -- A text in order is read.
-use Rattle.std.proofs.Common.{◌≡◌, ℕ, suc, ◌+◌, ◌<◌, ◌≤◌, Bool, true, false, not, ◌⊎◌, List, [], ◌∷◌, ◌++◌, map, length, sym, refl, ap, ◌∙◌, subst, inl, inr, append_assoc, append-nil, arith}
+use Rattle.std.proofs.Common.{◌≡◌, ℕ, suc, ◌<◌, ◌≤◌, Bool, true, false, not, ◌⊎◌, List, [], ◌∷◌, ◌++◌, map, length, sym, refl, ap, ◌∙◌, subst, inl, inr, append_assoc, append-nil, arith}
 use mathlib.Core.List.{map-append}
 use mathlib.Core.Option.{Option, none, some}
 use Rattle.notation.specs.Tokens.{Spot, Token, name, terminal, arrow, bar, semi, opening, closing, is_spelling, SourceToken, sort, Ending, end, fault}

@@ -1,5 +1,5 @@
 -- Each refusal is told wherever what it says holds.
-use Rattle.std.proofs.Common.{◌≡◌, ℕ, suc, ◌+◌, ◌<◌, ◌≤◌, Bool, true, false, cond, not, ◌⊎◌, List, [], ◌∷◌, ◌++◌, map, length, sym, refl, ap, ◌∙◌, subst, inl, inr, append_assoc, append-nil, arith, le-ltb, lt-ltb}
+use Rattle.std.proofs.Common.{◌≡◌, ℕ, suc, ◌<◌, ◌≤◌, Bool, true, false, cond, not, ◌⊎◌, List, [], ◌∷◌, ◌++◌, map, length, sym, refl, ap, ◌∙◌, subst, inl, inr, append_assoc, append-nil, arith, le-ltb, lt-ltb}
 use mathlib.Core.List.{map-append}
 use mathlib.Core.Option.{Option, none, some}
 use Rattle.std.specs.Str.{bytes_eq}
@@ -17,7 +17,7 @@ use Rattle.notation.proofs.Why.{WhyNot, by_depth, by_spelling, by_names, by_kind
 use Rattle.notation.proofs.Names.{firsts, length_firsts, names_step, kinds_step, way_names, way_kinds, depth_step, way_depth}
 use Rattle.notation.proofs.Roots.{ruled_sound, ruled_complete}
 use Rattle.notation.proofs.FineWay.{Fits, way_fits, start_fits, nodes_on, way_nodes}
-use Rattle.notation.proofs.Begins.{parted, sort_place, reading_sound, misplaced_right}
+use Rattle.notation.proofs.Begins.{sort_place, reading_sound, misplaced_right}
 use Rattle.notation.proofs.Way.{Way, here, on, Stopped, strayed, hindered, ended, stopped, Left, left, Whole, whole, next_stands}
 use Rattle.notation.proofs.Told.{depth_right, spelling_right, names_right, kinds_right, nodes_right, second_right, new_longer, gather_last, begins_with}
 use Rattle.notation.proofs.Complete.{unruled_right, each_at, open_append, gather_append, gather_more, name_more, kind_more}

@@ -1,5 +1,5 @@
 -- No token on a way is refused.
-use Rattle.std.proofs.Common.{◌≡◌, ℕ, ◌+◌, ◌≤◌, true, false, List, [], ◌∷◌, ◌++◌, length, sym, refl, ap, ◌∙◌, subst, append-nil, arith}
+use Rattle.std.proofs.Common.{◌≡◌, ℕ, ◌≤◌, true, false, List, [], ◌∷◌, ◌++◌, length, sym, refl, ap, ◌∙◌, subst, append-nil, arith}
 use Rattle.notation.specs.Tokens.{Spot, Token, name}
 use Rattle.notation.specs.Syntax.{Rule, spell}
 use Rattle.notation.specs.Tables.{Tables, no_tables}

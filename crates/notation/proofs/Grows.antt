@@ -1,5 +1,5 @@
 -- Tables only grow.
-use Rattle.std.proofs.Common.{◌≡◌, ℕ, zero, suc, ◌+◌, ◌≤◌, true, false, cond, List, [], ◌∷◌, ◌++◌, length, sym, refl, ap, ◌∙◌, subst, arith, length-append, length-set}
+use Rattle.std.proofs.Common.{◌≡◌, ℕ, zero, suc, ◌≤◌, true, false, cond, List, [], ◌∷◌, ◌++◌, length, sym, refl, ap, ◌∙◌, subst, arith, length-append, length-set}
 use Rattle.std.specs.Str.{bytes_eq}
 use Rattle.notation.specs.Tokens.{Bracket, round, square, curly, Spot, Token}
 use Rattle.notation.specs.Tables.{Entry, Tables, with_name, with_kind, with_root, add, link}

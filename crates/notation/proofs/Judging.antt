@@ -1,5 +1,5 @@
 -- A judging says all: what is read is right, what is refused is wrong, for the reason told.
-use Rattle.std.proofs.Common.{◌≡◌, ℕ, ◌⊎◌, List, sym, ap, ◌∙◌, ⊎_elim, arith}
+use Rattle.std.proofs.Common.{◌≡◌, ℕ, List, sym, ap, ◌∙◌, ⊎_elim, arith}
 use Rattle.notation.specs.Judging.{Says, GrammarOf, Right, Wrong, ReadIsRight, RefusedIsWrong}
 use Rattle.notation.specs.Numbering.{numbering}
 use Rattle.notation.specs.Reading.{Limits, Refusal, faulty, misplaced, too_deep, misspelt, names_full, kinds_full, nodes_full, second_rule, no_rule, read, refused, reading}

@@ -1,5 +1,5 @@
 -- What is read is in order, and its last node is the root of its last rule.
-use Rattle.std.proofs.Common.{◌≡◌, ℕ, zero, suc, ◌+◌, ◌≤◌, Bool, true, false, cond, List, [], ◌∷◌, ◌++◌, map, length, sym, refl, ap, ◌∙◌, subst, inl, inr, append_assoc, append-nil, arith}
+use Rattle.std.proofs.Common.{◌≡◌, ℕ, zero, suc, ◌≤◌, Bool, true, false, cond, List, [], ◌∷◌, ◌++◌, map, length, sym, refl, ap, ◌∙◌, subst, inl, inr, append_assoc, append-nil, arith}
 use mathlib.Core.Option.{Option, none, some}
 use Rattle.std.specs.Str.{bytes_eq}
 use Rattle.notation.specs.Tokens.{Token, arrow, semi, SourceToken, sort, Ending}

@@ -1,5 +1,5 @@
 -- What is left of a text at each shape, and how one token changes it.
-use Rattle.std.proofs.Common.{◌≡◌, ℕ, ◌+◌, List, [], ◌∷◌, ◌++◌, refl, ap, append_assoc}
+use Rattle.std.proofs.Common.{◌≡◌, ℕ, List, [], ◌∷◌, ◌++◌, refl, ap, append_assoc}
 use Rattle.notation.specs.Tokens.{Bracket, Spot, Token, arrow, bar, semi, closing}
 use Rattle.notation.specs.Syntax.{Item, named, literal, group, Sequence, nothing, item, Branches, last, either, Rule, spell_item, spell_sequence, spell_branches, spell}
 use Rattle.notation.specs.Tables.{Tables}

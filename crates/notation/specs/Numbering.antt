@@ -1,5 +1,5 @@
 -- The tables of a text: its nodes are numbered as they are completed.
-use Rattle.std.specs.Prelude.{ℕ, suc, ◌+◌, List, [], ◌∷◌, ◌++◌, length}
+use Rattle.std.specs.Prelude.{ℕ, suc, List, [], ◌∷◌, ◌++◌, length}
 use Rattle.notation.specs.Tokens.{Bracket, round, square, curly, Spot}
 use Rattle.notation.specs.Syntax.{Item, named, literal, group, Sequence, nothing, item, Branches, last, either, Rule}
 use Rattle.notation.specs.Tables.{Tables, no_tables, find_name, find_kind, with_name, with_kind, with_root, add, link}

@@ -1,5 +1,5 @@
 -- The tables of a grammar, as reading makes them.
-use Rattle.std.specs.Prelude.{ℕ, zero, suc, ◌+◌, cond, List, [], ◌∷◌, ◌++◌, slice_set}
+use Rattle.std.specs.Prelude.{ℕ, zero, suc, cond, List, [], ◌∷◌, ◌++◌, slice_set}
 use Rattle.std.proofs.Math.Option.{Option, none, some}
 use Rattle.std.specs.Str.{bytes_eq}
 use Rattle.notation.specs.Tokens.{Spot}

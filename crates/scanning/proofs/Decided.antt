@@ -1,19 +1,17 @@
 -- What stands at the front of a text is what the scan finds there.
-use Rattle.std.proofs.Common.{◌≡◌, ℕ, zero, suc, ◌+◌, ◌-◌, ◌<◌, ◌≤◌, Bool, true, false, cond, not, ◌&&◌, ◌||◌, eqb, ltb, ◌⊎◌, List, [], ◌∷◌, length, get_or, take, Some, None, Ok, Err, codes, Option, Result, sym, refl, ap, ◌∙◌, subst, inl, inr, ⊎_elim, one-add, arith}
+use Rattle.std.proofs.Common.{◌≡◌, ℕ, ◌+◌, ◌<◌, ◌≤◌, Bool, true, false, cond, eqb, ltb, List, [], ◌∷◌, length, get_or, take, Some, None, Ok, Err, codes, Option, sym, ap, ◌∙◌, ⊎_elim, one-add, arith}
 use Rattle.std.specs.Char.{is_ascii_alphabetic, is_ascii_digit, is_ascii_punctuation}
 use Rattle.std.specs.List.{prefix_len}
 use Rattle.std.proofs.lemmas.List.{get_or_past}
 use Rattle.std.proofs.lemmas.List.Sums.{prefix_len-le-length}
-use Rattle.std.proofs.lemmas.Bool.{and_parts, both_ways, cases_Bool, cases_lt, cases_order, cond-true, cond-false, eq-eqb, ne_eqb, le-ltb, lt-ltb, not-true}
+use Rattle.std.proofs.lemmas.Bool.{and_parts, both_ways, cases_Bool, cases_lt, cases_order, cond-true, cond-false, eq-eqb, ne_eqb, le-ltb, lt-ltb}
 use Rattle.std.proofs.lemmas.Bool.Decides.{nat_tests}
 use Rattle.lexer.specs.Bytes.{blank, sign, class, quote, hash, newline, in_word, in_comment, in_string}
-use Rattle.lexer.specs.Lexeme.{judged, named, or_else, word_kind, string_length, string_lexeme, pair_kind, one_sign, two_or_one, sign_lexeme, by_class, front}
-use Rattle.lexer.specs.Vocabulary.{Lexicon, kind_of, quoted}
+use Rattle.lexer.specs.Lexeme.{judged, or_else, word_kind, string_length, string_lexeme, pair_kind, one_sign, two_or_one, by_class, front}
+use Rattle.lexer.specs.Vocabulary.{Lexicon, kind_of}
 use Rattle.lexer.specs.declared.bytes.ByteClass.{ByteClass}
 use Rattle.lexer.specs.declared.bytes.ByteClass.TheVariants as class_is
-use Rattle.lexer.specs.declared.lexeme.Lexeme.{Lexeme}
 use Rattle.token.specs.declared.token.FaultCode.{FaultCode}
-use Rattle.token.specs.declared.token.FaultCode.TheVariants.{BeginsNothing, Unclosed, Oversized, NoKind}
 use Rattle.scanning.specs.Laws.{Longest, Closed, OpenString, WordKind, spelt, not_spelt, Asked, word, number, string, pair, single, Stands, blanks, comment, asked, BeginsNone, Faulty, begins_nothing, unclosed, too_long, no_kind}
 use Rattle.scanning.proofs.Runs.{leading_all, leading_stops}
 

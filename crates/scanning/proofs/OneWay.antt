@@ -1,5 +1,5 @@
 -- A text that is well cut is cut as the scan cuts it.
-use Rattle.std.proofs.Common.{◌≡◌, ℕ, ◌+◌, ◌<◌, List, [], ◌∷◌, length, get_or, drop, Ok, Err, sym, refl, ap, ◌∙◌, subst, ⊎_elim, arith}
+use Rattle.std.proofs.Common.{◌≡◌, ℕ, ◌+◌, ◌<◌, List, [], ◌∷◌, length, get_or, drop, Ok, Err, sym, ap, ◌∙◌, subst, ⊎_elim, arith}
 use Rattle.std.specs.List.{AllByRecursion as All}
 use Rattle.std.proofs.lemmas.List.{drop_more, drop_all}
 use Rattle.std.proofs.lemmas.Bool.{cases_lt}
@@ -10,7 +10,7 @@ use Rattle.token.specs.declared.token.Ending.{Ending}
 use Rattle.token.specs.declared.token.Ending.TheVariants.{End, Fault}
 use Rattle.token.specs.declared.token.FaultCode.{FaultCode}
 use Rattle.token.specs.declared.token.Token.{Token}
-use Rattle.scanning.specs.Laws.{Stands, Faulty, Tiles, Ends, WellCut, OnlyCut}
+use Rattle.scanning.specs.Laws.{Stands, Faulty, Tiles, Ends, OnlyCut}
 use Rattle.scanning.specs.Scan.{ending_place, token_at, scan_from, scan}
 use Rattle.scanning.proofs.Cuts.{scan_token_at, scan_fault_at}
 use Rattle.scanning.proofs.Decided.{stands_is, faulty_is, stands_some}

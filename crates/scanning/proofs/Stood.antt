@@ -1,5 +1,5 @@
 -- What is found at the front of a text stands there.
-use Rattle.std.proofs.Common.{◌≡◌, ℕ, ◌+◌, ◌<◌, ◌≤◌, Bool, true, false, cond, not, ◌||◌, eqb, ltb, ◌⊎◌, List, [], ◌∷◌, length, get_or, Some, None, codes, Option, Result, refl, ap, ◌∙◌, inl, inr, ⊎_elim, one-add, arith, MatchResult}
+use Rattle.std.proofs.Common.{◌≡◌, ℕ, ◌+◌, ◌<◌, ◌≤◌, Bool, true, false, cond, not, ◌||◌, eqb, ltb, List, [], ◌∷◌, length, get_or, Some, None, codes, Option, Result, refl, ap, ◌∙◌, inl, inr, ⊎_elim, one-add, arith, MatchResult}
 use Rattle.std.specs.Char.{is_ascii_alphabetic, is_ascii_digit}
 use Rattle.std.specs.Int.{is_in_range as within}
 use Rattle.std.specs.List.{prefix_len}
@@ -8,7 +8,7 @@ use Rattle.std.proofs.lemmas.List.Sums.{prefix_len-le-length}
 use Rattle.std.proofs.lemmas.Bool.{cond_both, cases_lt, eqb-true, ltb-true, ltb-false, and_cases, not-false, false≢true, both_ways}
 use Rattle.lexer.specs.Bytes.{blank, sign, class, in_word, in_comment, in_string, quote, hash, newline, underscore}
 use Rattle.scanning.specs.Laws.{Closed, WordKind, spelt, not_spelt, Asked, word, number, string, pair, single, Stands, blanks, comment, asked, BeginsNone, Faulty, begins_nothing, unclosed, too_long, no_kind}
-use Rattle.lexer.specs.Lexeme.{judged, named, or_else, word_kind, string_length, string_lexeme, one_sign, two_or_one, pair_kind, sign_lexeme, by_class, front}
+use Rattle.lexer.specs.Lexeme.{judged, named, or_else, word_kind, string_length, string_lexeme, one_sign, two_or_one, sign_lexeme, by_class, front}
 use Rattle.lexer.specs.Vocabulary.{Lexicon, kind_of, quoted}
 use Rattle.lexer.specs.declared.bytes.ByteClass.{ByteClass}
 use Rattle.lexer.specs.declared.bytes.ByteClass.TheVariants as class_is

@@ -1,7 +1,7 @@
 -- Nodes over rows of nodes.
-use Rattle.std.proofs.Common.{◌≡◌, ℕ, ◌+◌, ◌<◌, ◌≤◌, List, [], ◌∷◌, ◌++◌, length, get_or, Ok, Err, Result, sym, refl, ap, ◌∙◌, subst, arith, length-append, MatchResult}
+use Rattle.std.proofs.Common.{◌≡◌, ℕ, ◌+◌, ◌<◌, List, [], ◌∷◌, length, get_or, Ok, Err, Result, sym, ap, ◌∙◌, subst, arith, length-append, MatchResult}
 use Rattle.notation.specs.Tables.{add, link}
-use Rattle.tables.specs.Nodes.{node_list, RestKept, NodeMade, IsNodesFull, over_row, RowEnded, RowRefused}
+use Rattle.tables.specs.Nodes.{node_list, RestKept, NodeMade, IsNodesFull, RowEnded, RowRefused}
 use Rattle.tables.proofs.Rows.{kept_none, kept_more}
 use Rattle.tables.specs.declared.full.Full.{Full}
 use Rattle.tables.specs.declared.nodes.Nodes.{Nodes}

@@ -4,7 +4,7 @@ use Rattle.std.specs.List.{prefix_len}
 use Rattle.std.proofs.lemmas.List.{take_all, take_more_set}
 use Rattle.std.proofs.lemmas.List.Sums.{prefix_len-le-length}
 use Rattle.std.proofs.lemmas.Bool.{cases_lt, cond-true, cond-false, lt-ltb, le-ltb}
-use Rattle.tables.specs.Records.{records, room, Known, RestKept, place_among, with_new, Numbered, Refused}
+use Rattle.tables.specs.Records.{records, room, Known, RestKept, place_among, Numbered, Refused}
 use Rattle.tables.specs.Spots.{cut, differs}
 use Rattle.tables.specs.declared.spots.Spots.{Spots}
 

@@ -8,10 +8,9 @@ use Rattle.std.specs.Str.{bytes_eq}
 use Rattle.std.proofs.lemmas.Bool.{cases_lt, cond-true, cond-false, cond_both, lt-ltb, le-ltb, ne_eqb, eq-eqb}
 use Rattle.lexer.specs.declared.vocabulary.Spelling.{Spelling}
 use Rattle.notation.specs.Reading.{has_rule, ruleless}
-use Rattle.notation.specs.Tables.{Entry, find_name, find_kind, with_name, with_kind, with_root}
-use Rattle.notation.specs.Tokens.{Spot}
+use Rattle.notation.specs.Tables.{find_name, find_kind, with_name, with_kind, with_root}
 use Rattle.tables.specs.Meant.{spot_at, kind_meant, root_meant, name_meant}
-use Rattle.tables.specs.Names.{with_root_of, rooted, ruled, lowest_unruled}
+use Rattle.tables.specs.Names.{rooted, ruled, lowest_unruled}
 use Rattle.tables.specs.Records.{with_new, place_among}
 use Rattle.tables.specs.Spots.{cut, differs}
 use Rattle.tables.specs.declared.name.Name.{Name}

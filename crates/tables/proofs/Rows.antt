@@ -1,5 +1,5 @@
 -- Nodes in a table that is filled from place 0 on.
-use Rattle.std.proofs.Common.{◌≡◌, ℕ, ◌+◌, ◌-◌, ◌<◌, ◌≤◌, ◌⊎◌, List, [], ◌∷◌, ◌++◌, length, get_or, take, drop, set, sym, refl, ap, ◌∙◌, ⊎_elim, arith, length-take, get_or-take}
+use Rattle.std.proofs.Common.{◌≡◌, ℕ, ◌+◌, ◌-◌, ◌<◌, ◌≤◌, ◌⊎◌, List, [], ◌∷◌, length, get_or, take, drop, set, sym, refl, ap, ◌∙◌, ⊎_elim, arith, length-take, get_or-take}
 use lib.Seq.{take-set-lt, set_out}
 use Rattle.std.proofs.lemmas.List.{get_or_default, drop_more, drop_all, drop-drop}
 use Rattle.notation.specs.Tables.{join, link}

@@ -1,5 +1,5 @@
 -- What a table of records holds that are known by how the text writes them.
-use Rattle.std.specs.Prelude.{◌≡◌, ℕ, ◌<◌, ◌≤◌, min, Bool, cond, List, [], ◌∷◌, ◌++◌, length, take, drop, replicate, nat_lt}
+use Rattle.std.specs.Prelude.{◌≡◌, ℕ, ◌≤◌, min, cond, List, [], ◌∷◌, ◌++◌, length, take, drop, replicate, nat_lt}
 use Rattle.std.specs.List.{prefix_len}
 use Rattle.tables.specs.Spots.{cut, differs}
 use Rattle.tables.specs.declared.spots.Spots.{Spots}

@@ -1,5 +1,5 @@
 -- What the layer over a text keeps.
-use Rattle.std.proofs.Common.{◌≡◌, ℕ, ◌+◌, ◌<◌, ◌≤◌, Bool, true, false, cond, not, ◌&&◌, ◌||◌, eqb, ltb, List, [], ◌∷◌, length, filter, sym, refl, ap, ◌∙◌, ⊎_elim, arith}
+use Rattle.std.proofs.Common.{◌≡◌, ℕ, ◌<◌, ◌≤◌, Bool, true, false, cond, not, ◌&&◌, ◌||◌, eqb, ltb, List, [], ◌∷◌, length, filter, refl, ap, ◌∙◌, ⊎_elim, arith}
 use Rattle.std.proofs.lemmas.List.Sums.{length-filter, count_by-le-length}
 use Rattle.std.proofs.lemmas.Bool.{cases_eq, eq-eqb, ne_eqb, lt-ltb}
 use Rattle.kindset.specs.Member.{member}
@@ -8,13 +8,9 @@ use Rattle.scanning.proofs.Cuts.{few_tokens}
 use Rattle.tokens.specs.Layer.{keeps, without}
 use Rattle.tokens.specs.Layered.{seen, layered_tokens, layered_ending, Layered}
 use Rattle.tokens.specs.Meaning.{text_tokens, text_ending, Scans}
-use Rattle.scanning.specs.Scan.{ending_place}
 use Rattle.lexer.specs.Vocabulary.{Lexicon}
 use Rattle.tokens.specs.declared.skipping.Skipping.{Skipping}
 use Rattle.tokens.specs.declared.text.TextSource.{TextSource}
-use Rattle.token.specs.declared.token.Ending.{Ending}
-use Rattle.token.specs.declared.token.Ending.TheVariants.{End, Fault}
-use Rattle.token.specs.declared.token.Token.{Token}
 
 -- filters that agree on every element keep the same
 pub kept_alike : {X : Type 0} (p q : X → Bool) → ((x : X) → p x ≡ q x) → (xs : List X) → filter p xs ≡ filter q xs

@@ -1,5 +1,5 @@
 -- What a source that holds its first token ready means.
-use Rattle.std.specs.Prelude.{ℕ, ◌+◌, ◌%◌, List, [], ◌∷◌, Ok, Err, Result}
+use Rattle.std.specs.Prelude.{◌+◌, ◌%◌, List, [], ◌∷◌, Ok, Err, Result}
 use Rattle.scanning.specs.Scan.{KindFits}
 use Rattle.tokens.specs.declared.held.Held.{Held}
 use Rattle.tokens.specs.declared.held.Held.TheVariants as held_is

@@ -1,11 +1,11 @@
 -- What the skipping layer means: the inner list without some kinds, and the same ending.
-use Rattle.std.specs.Prelude.{◌+◌, ◌%◌, ◌<◌, Bool, not, List, filter}
+use Rattle.std.specs.Prelude.{◌%◌, ◌<◌, Bool, not, List, filter}
 use Rattle.std.proofs.Common.{mod-lt, arith}
 use Rattle.kindset.specs.Member.{member}
 use Rattle.kindset.specs.declared.KindSet.{KindSet}
 use Rattle.std.specs.List.{AllByRecursion as All}
 use Rattle.std.proofs.ByRecursion.{all_kept_by}
-use Rattle.tokens.specs.Held.{held_token, with_held}
+use Rattle.tokens.specs.Held.{with_held}
 use Rattle.scanning.specs.Scan.{KindFits}
 use Rattle.tokens.specs.declared.held.Held.{Held}
 use Rattle.tokens.specs.declared.held.Held.TheVariants as held_is

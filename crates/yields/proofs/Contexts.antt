@@ -9,7 +9,6 @@ use Rattle.yields.specs.WellFormed.{WellFormed, root_of, start_root}
 use Rattle.yields.specs.Equations.{Solves}
 use Rattle.yields.specs.Marks.{Has, first}
 use Rattle.yields.specs.Follow.{Next, Last, Rests, Direct, Follow, here, there, only, further}
-use Rattle.yields.specs.Follow as F
 use Rattle.yields.specs.Context.{mark_of, Comes, Sentence, Met, After}
 use Rattle.yields.proofs.Sets.{has_or, has_pow, without_has}
 use Rattle.yields.proofs.Ends.{value_at, Within, within_rest, child_within, option_within, repetition_within, root_within}

@@ -7,4 +7,4 @@ pub returns-in-Ok : goal.returns-in-Ok
 returns-in-Ok c = λ w well. made_one c.args.class c.args.value c.args.first (forest_of c.args.nodes.now w) (forest_of c.make.new.self w) c.in-Ok.node well refl c.in-Ok.ensures.told c.make.ensures.loan
 
 pub returns-in-Err : goal.returns-in-Err
-returns-in-Err c = λ w well. made_none (forest_of c.args.nodes.now w) (forest_of c.make.new.self w) c.limit.result c.in-Err.ensures.told c.limit.ensures
+returns-in-Err c = λ w well. made_none (forest_of c.args.nodes.now w) (forest_of c.make.new.self w) c.full.result c.in-Err.ensures.told c.full.ensures

@@ -1,4 +1,4 @@
-use Rattle.std.proofs.Common.{◌≡◌, sym, ap, ◌∙◌, rules}
+use Rattle.std.proofs.Common.{sym, ap, ◌∙◌, rules}
 use Rattle.std.proofs.lemmas.Slice.{first_rest}
 use Rattle.lexer.specs.Lexeme.{front}
 use Rattle.lexer.specs.Vocabulary.{lexicon}

@@ -1,4 +1,4 @@
-use Rattle.std.proofs.Common.{◌≡◌, ◌&&◌, ◌||◌, eqb, ltb, refl, ap, ◌∙◌, arith}
+use Rattle.std.proofs.Common.{◌&&◌, ◌||◌, eqb, ltb, ap, ◌∙◌, arith}
 use Rattle.tokens.proofs.Layers.{below_128}
 use Rattle.tokens.proofs.layering.passed_over.Goals as goal
 

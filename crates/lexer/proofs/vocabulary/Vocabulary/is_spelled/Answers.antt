@@ -1,4 +1,4 @@
-use Rattle.std.proofs.Common.{arith, rules}
+use Rattle.std.proofs.Common.{rules}
 use Rattle.lexer.specs.Vocabulary.{written}
 use Rattle.lexer.proofs.Spellings.{other_length}
 use Rattle.lexer.proofs.vocabulary.Vocabulary.is_spelled.Goals as goal

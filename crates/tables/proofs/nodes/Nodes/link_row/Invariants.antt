@@ -1,4 +1,4 @@
-use Rattle.std.proofs.Common.{◌≡◌, ◌-◌, ◌<◌, ◌≤◌, length, drop}
+use Rattle.std.proofs.Common.{◌≡◌, ◌-◌, ◌≤◌, length, drop}
 use Rattle.notation.specs.Tables.{link}
 use Rattle.tables.specs.Nodes.{node_list, RestKept}
 use Rattle.tables.proofs.nodes.Nodes.link_row.Given as goal

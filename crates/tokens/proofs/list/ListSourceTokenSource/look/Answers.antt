@@ -1,4 +1,4 @@
-use Rattle.std.proofs.Common.{sym, arith, rules}
+use Rattle.std.proofs.Common.{arith, rules}
 use Rattle.tokens.proofs.Listing.{look_end, look_other, look_kind}
 use Rattle.tokens.proofs.list.ListSourceTokenSource.look.Goals as goal
 
