@@ -1,6 +1,6 @@
 -- A scanned text is well cut, and its tokens come one after the other.
 use Rattle.std.proofs.Common.{◌≡◌, ℕ, zero, suc, ◌+◌, ◌-◌, ◌<◌, ◌≤◌, List, [], ◌∷◌, length, get_or, take, drop, Ok, Err, Result, sym, refl, ap, ◌∙◌, subst, add-zero, arith, length-drop}
-use Rattle.std.specs.List.{AllByRecursion as All}
+use Rattle.std.specs.List.{AllByRecursion}
 use Rattle.std.proofs.lemmas.List.{drop-drop, drop_more, take_rest}
 use Rattle.scanning.specs.Laws.{Stands, Faulty, Tiles, Ends, WellCut}
 use Rattle.lexer.specs.Lexeme.{front}
@@ -26,7 +26,7 @@ scan_skip x (b ∷ bs) (suc k) p h =
 -- a scan that has cut the text from a place on
 pub record CutFrom (x : Lexicon) (whole : List ℕ) (p : ℕ) (s : Scan) : Type 0 where
   pub tiles : Tiles p s.tokens (ending_place s.ending)
-  pub each : All (λ t. Stands x (drop t.place whole) t.kind t.length) s.tokens
+  pub each : AllByRecursion (λ t. Stands x (drop t.place whole) t.kind t.length) s.tokens
   pub ends : Ends x whole s.ending
 
 module _ (x : Lexicon) (whole : List ℕ) where

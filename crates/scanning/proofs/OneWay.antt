@@ -1,6 +1,6 @@
 -- A text that is well cut is cut as the scan cuts it.
 use Rattle.std.proofs.Common.{◌≡◌, ℕ, ◌+◌, ◌<◌, List, [], ◌∷◌, length, get_or, drop, Ok, Err, sym, ap, ◌∙◌, subst, ⊎_elim, arith}
-use Rattle.std.specs.List.{AllByRecursion as All}
+use Rattle.std.specs.List.{AllByRecursion}
 use Rattle.std.proofs.lemmas.List.{drop_more, drop_all}
 use Rattle.std.proofs.lemmas.Bool.{cases_lt}
 use Rattle.lexer.specs.Lexeme.{front}
@@ -39,7 +39,7 @@ module _ (x : Lexicon) (text : List ℕ) where
       let s = scan_fault_at x text p here f.code (fault_at p f.code here (subst (λ q. Faulty x (drop q text) f.code) (sym same) h.1)) in
       (sym (ap (λ r. r.tokens) s), ap (λ q. Fault (record { code = f.code; place = q })) (sym same) ∙ sym (ap (λ r. r.ending) s))
 
-  cut_so : (ts : List Token) (p : ℕ) (e : Ending) → Tiles p ts (ending_place e) → All (λ t. Stands x (drop t.place text) t.kind t.length) ts → Ends x text e → (ts ≡ (scan_from x (drop p text) p).tokens) × (e ≡ (scan_from x (drop p text) p).ending)
+  cut_so : (ts : List Token) (p : ℕ) (e : Ending) → Tiles p ts (ending_place e) → AllByRecursion (λ t. Stands x (drop t.place text) t.kind t.length) ts → Ends x text e → (ts ≡ (scan_from x (drop p text) p).tokens) × (e ≡ (scan_from x (drop p text) p).ending)
   cut_so [] p e tiles each ends = ends_so p e tiles ends
   cut_so (t ∷ ts) p e tiles each ends =
       let stands = subst (λ q. Stands x (drop q text) t.kind t.length) tiles.0 each.0 in

@@ -1,7 +1,7 @@
 -- What holds of a text that is cut into tokens, in the words of the subject.
 use Rattle.std.specs.Prelude.{◌≡◌, ℕ, ◌+◌, ◌<◌, ◌≤◌, Bool, true, false, ◌⊎◌, List, [], ◌∷◌, length, take, drop, Some, None, codes, Option, nat_eq, slice_index, slice_index_or}
 use Rattle.std.specs.Char.{is_ascii_alphabetic, is_ascii_digit}
-use Rattle.std.specs.List.{AllByRecursion as All}
+use Rattle.std.specs.List.{AllByRecursion}
 use Rattle.lexer.specs.Bytes.{blank, sign, in_word, in_comment, in_string, quote, hash, newline}
 use Rattle.scanning.specs.Scan.{ending_place}
 use Rattle.lexer.specs.Vocabulary.{Lexicon, kind_of, quoted}
@@ -79,7 +79,7 @@ Ends x bs (Fault f) = (f.place < length bs) × Faulty x (drop f.place bs) f.code
 -- the tokens tile the text up to the ending, each stands in it, and the ending fits
 pub record WellCut (x : Lexicon) (bs : List ℕ) (ts : List Token) (e : Ending) : Type 0 where
   pub tiles : Tiles 0 ts (ending_place e)
-  pub each : All (λ t. Stands x (drop t.place bs) t.kind t.length) ts
+  pub each : AllByRecursion (λ t. Stands x (drop t.place bs) t.kind t.length) ts
   pub ends : Ends x bs e
 
 -- no other list of tokens and no other ending cut the text well

@@ -1,7 +1,7 @@
 -- Every kind that a scan gives is one of 1 to 122.
 use Rattle.std.specs.Prelude.{ℕ, zero, suc, ◌+◌, ◌-◌, ◌<◌, ◌≤◌, Bool, List, [], ◌∷◌, length, take, Some, None, Ok, Err, codes, Option, Result, nat_lt}
 use Rattle.std.proofs.Common.{arith, length-take}
-use Rattle.std.specs.List.{AllByRecursion as All}
+use Rattle.std.specs.List.{AllByRecursion}
 use Rattle.std.proofs.lemmas.Bool.{cond_both}
 use Rattle.lexer.specs.Bytes.{sign, class}
 use Rattle.lexer.specs.Lexeme.{named, judged, or_else, word_kind, string_length, string_lexeme, pair_kind, one_sign, two_or_one, sign_lexeme, by_class, front}
@@ -86,11 +86,11 @@ module _ (x : Lexicon) where
   front_fits [] = tt
   front_fits (b ∷ bs) = class_fits (class b) b bs
 
-  after_fits : (p : ℕ) (r : Result Lexeme FaultCode) (go_on : ℕ → Scan) → LexemeFits r → ((n : ℕ) → All KindFits (go_on n).tokens) → All KindFits (after_lexeme p r go_on).tokens
+  after_fits : (p : ℕ) (r : Result Lexeme FaultCode) (go_on : ℕ → Scan) → LexemeFits r → ((n : ℕ) → AllByRecursion KindFits (go_on n).tokens) → AllByRecursion KindFits (after_lexeme p r go_on).tokens
   after_fits p (Ok l) go_on f more = (f, more (l.length - 1))
   after_fits p (Err c) go_on f more = tt
 
-  pub scan_kinds : (bs : List ℕ) (inside p : ℕ) → All KindFits (scan_bytes x bs inside p).tokens
+  pub scan_kinds : (bs : List ℕ) (inside p : ℕ) → AllByRecursion KindFits (scan_bytes x bs inside p).tokens
   scan_kinds [] inside p = tt
   scan_kinds (b ∷ bs) (suc inside) p = scan_kinds bs inside (p + 1)
   scan_kinds (b ∷ bs) zero p = after_fits p (front x (b ∷ bs)) _ (front_fits (b ∷ bs)) (λ n. scan_kinds bs n (p + 1))

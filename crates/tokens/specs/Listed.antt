@@ -1,6 +1,6 @@
 -- What a table of stored kinds means: its tokens up to the first number that is no kind.
 use Rattle.std.specs.Prelude.{◌≡◌, ℕ, ◌+◌, ◌<◌, Bool, false, cond, ◌&&◌, List, [], ◌∷◌, length, nat_le, slice_index, slice_index_or}
-use Rattle.std.specs.List.{AllByRecursion as All}
+use Rattle.std.specs.List.{AllByRecursion}
 use Rattle.std.proofs.lemmas.Bool.{cond_both, and_parts, leb-true}
 use Rattle.scanning.specs.Scan.{KindFits}
 use Rattle.token.specs.declared.token.Ending.{Ending}
@@ -35,13 +35,13 @@ ListEnds ks ts (Fault f) = (f.code ≡ OutOfRange) × (f.place ≡ length ts) ×
 -- the tokens are the table's first numbers one by one, all of them kinds, and the ending fits
 pub record WellListed (ks : List ℕ) (ts : List Token) (e : Ending) : Type 0 where
   pub each : (i : ℕ) → i < length ts → slice_index_or ts i (stored 0 0) ≡ stored (slice_index ks i) i
-  pub kinds : All KindFits ts
+  pub kinds : AllByRecursion KindFits ts
   pub ends : ListEnds ks ts e
 
 -- the law of kinds, for the list source
-pub listed_kinds : (i : ℕ) (ks : List ℕ) → All KindFits (listed i ks)
+pub listed_kinds : (i : ℕ) (ks : List ℕ) → AllByRecursion KindFits (listed i ks)
 listed_kinds i [] = tt
 listed_kinds i (k ∷ ks) =
-    cond_both (is_kind k) (stored k i ∷ listed (i + 1) ks) [] (All KindFits)
+    cond_both (is_kind k) (stored k i ∷ listed (i + 1) ks) [] (AllByRecursion KindFits)
     (λ e. let h = and_parts (nat_le 1 k) (nat_le k 122) e in ((leb-true 1 k h.0, leb-true k 122 h.1), listed_kinds (i + 1) ks))
     (λ e. tt)

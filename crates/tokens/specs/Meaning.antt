@@ -1,6 +1,6 @@
 -- What the list source and the text source mean, by their fields.
 use Rattle.std.specs.Prelude.{◌≡◌, ℕ, ◌≤◌, List, length, drop}
-use Rattle.std.specs.List.{AllByRecursion as All}
+use Rattle.std.specs.List.{AllByRecursion}
 use Rattle.tokens.specs.Held.{with_held, held_ending}
 use Rattle.scanning.specs.Laws.{WellCut, OnlyCut}
 use Rattle.tokens.specs.Layer.{held_kinds}
@@ -48,5 +48,5 @@ pub record Scans (x : Lexicon) (text : List ℕ) (s : TextSource) : Type 0 where
   pub only : OnlyCut x text (text_tokens s) (text_ending s)
 
 -- the law of kinds, for the text source
-pub text_kinds : (s : TextSource) → All KindFits (text_tokens s)
+pub text_kinds : (s : TextSource) → AllByRecursion KindFits (text_tokens s)
 text_kinds s = held_kinds s.ahead.held (unlexed s).tokens (scan_kinds (lexicon s.vocabulary) (drop s.ahead.place s.text.now) 0 s.ahead.place)

@@ -1,7 +1,7 @@
 // What every source of tokens promises.
 ghost use Rattle.std.specs.Prelude.{◌≡◌, ℕ, List};
 ghost use Rattle.std.specs.Option.{option_map};
-ghost use Rattle.std.specs.List.{AllByRecursion as All};
+ghost use Rattle.std.specs.List.{AllByRecursion};
 ghost use Rattle.scanning.specs.Scan.{KindFits};
 ghost use Rattle.tokens.specs.Sources.{looked, taken, told, left, SameIfNone};
 ghost use Rattle.lexer.specs.Parts.{part_of};
@@ -20,7 +20,7 @@ pub trait TokenSource {
     ghost input: { Self → List ℕ };
 
     // Each kind is one of 1 to 122.
-    ghost kinds: { (s : Self) → All KindFits (tokens s) };
+    ghost kinds: { (s : Self) → AllByRecursion KindFits (tokens s) };
 
     // The first token, or else the ending. Changes nothing.
     fn look(&self) -> Result<Next, Fault>
