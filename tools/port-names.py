@@ -17,15 +17,19 @@ TOKEN = re.compile(r'b\'(?:[^\'\\]|\\.)\'|--[^\n]*|//[^\n]*|"(?:[^"\\]|\\.)*"|\'
 USE = re.compile(r"(?m)^\s*(?:pub )?(?:ghost )?use ([\w.·+'-]+)\.\{([^}]*)\}")
 
 
-# Names that would fall together with another of the same spelling.
+# Names that would fall together with another of the same spelling, and three that the kit's script
+# spells by a library's name.
 APART = {
     "Begins-nothing": "BeginsNone",
     "Class-word": "IsClassWord",
+    "FoundNone": "found_none",
+    "Goes_on": "GoesOn",
+    "Item_at": "ItemAt",
     "Nodes-full": "IsNodesFull",
     "Too-long": "IsTooLong",
     "Well-formed": "IsWellFormed",
-    "bit-and": "bit-bit_and",
-    "bit-or": "bit-bit_or",
+    "bit-and": "bit_bit_and",
+    "bit-or": "bit_bit_or",
     "survey-of": "survey_of_tokens",
     "survey-text": "text_of_survey",
 }
@@ -97,7 +101,7 @@ def main(top):
     own = set()
     for p, t in texts.items():
         if p.endswith(".antt") and not is_made(p):
-            own |= {n for n in declared(t) if "-" in n}
+            own |= {n for n in declared(t) if "-" in n or n in APART}
     changed, clashes = 0, []
     for p, t in texts.items():
         foreign = imports(t, crates)
@@ -107,7 +111,7 @@ def main(top):
         for m in TOKEN.finditer(t):
             w = m.group(0)
             field = was == "."
-            if "-" in w and (w[0].isalpha() or w[0] == "_") and (w not in foreign or os.path.relpath(p, top) in APART_IN) and w not in made:
+            if ("-" in w or w in APART) and (w[0].isalpha() or w[0] == "_") and (w not in foreign or os.path.relpath(p, top) in APART_IN) and w not in made:
                 own_name = w in own
                 local = not field and p.endswith(".antt") and not is_made(p)
                 local = local or (not field and is_made(p) and p.endswith(".antt") and w not in own)

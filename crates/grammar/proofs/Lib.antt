@@ -11,5 +11,5 @@ mod Rooting
 mod Ruling
 mod Sequences
 mod Sorted
-mod Spelled
+pub mod Spelled
 mod Stacked

@@ -46,8 +46,12 @@ pow_member k m =
     (λ d. ap (λ u. eqb u 1) (bit_pow_other k m d) ∙ sym (ne_eqb m k d))
     (cases_eq m k)
 
+-- a set joined with one bit has what it had, and that bit's place
+pub bit_joined : (s k m : ℕ) → eqb (bit (bit_or s (2 ^ k)) m) 1 ≡ (eqb (bit s m) 1 || eqb m k)
+bit_joined s k m = ap (λ u. eqb u 1) (bit_bit_or s (2 ^ k) m) ∙ eqb_max (bit s m) (bit (2 ^ k) m) (bit_two s m) (bit_two (2 ^ k) m) ∙ ap (λ b. eqb (bit s m) 1 || b) (pow_member k m)
+
 pub with_member : (s k m : ℕ) → (ltb m 128 && eqb (bit (bit_or s (2 ^ k)) m) 1) ≡ ((ltb m 128 && eqb (bit s m) 1) || (ltb m 128 && eqb m k))
-with_member s k m = union_member s (2 ^ k) m ∙ ap (λ b. (ltb m 128 && eqb (bit s m) 1) || (ltb m 128 && b)) (pow_member k m)
+with_member s k m = ap (λ b. ltb m 128 && b) (bit_joined s k m) ∙ spread (ltb m 128) (eqb (bit s m) 1) (eqb m k)
 
 -- without the empty mark
 pub without_member : (s m : ℕ) → (ltb m 128 && eqb (bit (s % 2 ^ 127) m) 1) ≡ ((ltb m 128 && eqb (bit s m) 1) && ltb m 127)

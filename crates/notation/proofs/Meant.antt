@@ -10,7 +10,7 @@ use Rattle.notation.specs.Tables.{Tables, find_name, find_kind, with_kind, add, 
 use Rattle.notation.specs.Numbering.{Made, Listed, Level, no_level, make, name_known, make_name, make_token, end_sequence, end_branches, end_group, number_item, number_sequence, number_branches}
 use Rattle.notation.specs.Statements.{Each}
 use Rattle.notation.specs.Shaped.{In, Rising, Linked}
-use Rattle.notation.specs.Meaning.{NameNumber, KindNumber, Item_at, name_at, token_at, round_at, square_at, curly_at, SequenceAt, empty_at, single_at, chain_at, ItemsAt, no_items, more_items, BranchesAt, one_at, either_at, PartsAt, last_part, more_parts}
+use Rattle.notation.specs.Meaning.{NameNumber, KindNumber, ItemAt, name_at, token_at, round_at, square_at, curly_at, SequenceAt, empty_at, single_at, chain_at, ItemsAt, no_items, more_items, BranchesAt, one_at, either_at, PartsAt, last_part, more_parts}
 use Rattle.tree.specs.declared.class.Class.{Class}
 use Rattle.tree.specs.declared.class.Class.TheVariants.{Empty, Token, Name, Chain, Alternative, Optional, Repetition}
 use Rattle.tree.specs.declared.node.Node.{Node}
@@ -21,7 +21,7 @@ use Rattle.notation.proofs.Forest.{Skeleton, skeleton, linked_frame, link_skelet
 use Rattle.notation.proofs.Close.{each_of}
 
 mutual
-  item_le : {T : Tables} {lo n : ℕ} {x : Item} → Item_at T lo n x → lo ≤ n
+  item_le : {T : Tables} {lo n : ℕ} {x : Item} → ItemAt T lo n x → lo ≤ n
   item_le (name_at c k) = omega arith
   item_le (token_at i c v k) = omega arith
   item_le (round_at b) = branches_le b
@@ -81,7 +81,7 @@ abbrev pub Same : Tables → Tables → ℕ → ℕ → Type 0
 Same T U lo hi = (i : ℕ) → lo ≤ i → i < hi → node U.nodes i ≡ node T.nodes i
 
 mutual
-  frame_item : {T : Tables} {lo n : ℕ} {x : Item} → Item_at T lo n x → (U : Tables) → Words T U → Same T U lo n → Skeleton (node U.nodes n) (node T.nodes n) → Item_at U lo n x
+  frame_item : {T : Tables} {lo n : ℕ} {x : Item} → ItemAt T lo n x → (U : Tables) → Words T U → Same T U lo n → Skeleton (node U.nodes n) (node T.nodes n) → ItemAt U lo n x
   frame_item (name_at {n = n} {s = s} c k) U w h x = name_at (x.class_is ∙ c) (subst (λ v. NameNumber s.bytes v U) (sym x.value_is) (w.names_kept _ _ k))
   frame_item (token_at i c v k) U w h x = token_at i (x.class_is ∙ c) (x.value_is ∙ v) (w.kinds_kept _ _ k)
   frame_item (round_at b) U w h x = round_at (frame_branches b U w h x)
@@ -220,7 +220,7 @@ later_leaf k v T U w =
     let e = c.size in
     record { same = λ i h. c.old i h (λ x. x); longer = omega arith; words = record { names_kept = w.names_kept; kinds_kept = w.kinds_kept } }
 
-meant_name : (s : Spot) (T : Tables) → Ended T (make_name s T) (λ U lo n. Item_at U lo n (named s))
+meant_name : (s : Spot) (T : Tables) → Ended T (make_name s T) (λ U lo n. ItemAt U lo n (named s))
 meant_name s T =
     let c = leaf_closing Name (find_name s.bytes T.names) T.nodes in
     record {
@@ -230,7 +230,7 @@ meant_name s T =
       later = later_leaf Name (find_name s.bytes T.names) T (name_known s T) (record { names_kept = λ w i h. known_keep w i s T.names h; kinds_kept = λ w i h. h });
     }
 
-meant_token : (k : Terminal) (s : Spot) (T : Tables) → Ended T (make_token s T) (λ U lo n. Item_at U lo n (literal k s))
+meant_token : (k : Terminal) (s : Spot) (T : Tables) → Ended T (make_token s T) (λ U lo n. ItemAt U lo n (literal k s))
 meant_token k s T =
     let i = find_kind s.bytes T.kinds in
     let c = leaf_closing Token (suc i) T.nodes in
@@ -337,13 +337,13 @@ module _ (k : Class) (T : Tables) (B : Branches) (M : Made) (m : Ended T M (λ U
       let a = branches_le m.at_end in
       close_later k M.at (M.at ∷ []) T M.tables m.later (λ x i. elim i [ inl e ↦ omega arith | inr y ↦ elim y [ ] ]) c
 
-group_meant : (b : Bracket) (s t : Spot) (T : Tables) (B : Branches) (M : Made) → Ended T M (λ U lo n. BranchesAt U lo n B) → Ended T (end_group b M) (λ U lo n. Item_at U lo n (group b s B t))
+group_meant : (b : Bracket) (s t : Spot) (T : Tables) (B : Branches) (M : Made) → Ended T M (λ U lo n. BranchesAt U lo n B) → Ended T (end_group b M) (λ U lo n. ItemAt U lo n (group b s B t))
 group_meant round s t T B M m = record { at_end = round_at m.at_end; size = m.size; free = m.free; later = m.later }
 group_meant square s t T B M m =
     let c = group_closing Optional T B M m in
     let U : Tables = (end_group square M).tables in
     record {
-      at_end = subst (λ z. Item_at U (length T.nodes) z (group square s B t)) (sym m.size)
+      at_end = subst (λ z. ItemAt U (length T.nodes) z (group square s B t)) (sym m.size)
           (square_at (subst (λ z. (node U.nodes z).class ≡ Optional) m.size (ap (λ y. y.class) c.new)) (subst (λ z. (node U.nodes z).first ≡ M.at) m.size (ap (λ y. y.first) c.new)) c.links.0
           (group_inside Optional T B M m c));
       size = c.size;
@@ -354,7 +354,7 @@ group_meant curly s t T B M m =
     let c = group_closing Repetition T B M m in
     let U : Tables = (end_group curly M).tables in
     record {
-      at_end = subst (λ z. Item_at U (length T.nodes) z (group curly s B t)) (sym m.size)
+      at_end = subst (λ z. ItemAt U (length T.nodes) z (group curly s B t)) (sym m.size)
           (curly_at (subst (λ z. (node U.nodes z).class ≡ Repetition) m.size (ap (λ y. y.class) c.new)) (subst (λ z. (node U.nodes z).first ≡ M.at) m.size (ap (λ y. y.first) c.new)) c.links.0
           (group_inside Repetition T B M m c));
       size = c.size;
@@ -373,7 +373,7 @@ ended_sequence xs T r =
     (end_sequence_meant T S.tables (length T.nodes) (length S.tables.nodes) r.new xs refl refl r.at_end r.free r.later)
 
 mutual
-  item_meant : (x : Item) (T : Tables) → Ended T (number_item x T) (λ U lo n. Item_at U lo n x)
+  item_meant : (x : Item) (T : Tables) → Ended T (number_item x T) (λ U lo n. ItemAt U lo n x)
   item_meant (named s) T = meant_name s T
   item_meant (literal k s) T = meant_token k s T
   item_meant (group b s inside t) T = group_meant b s t T inside (number_branches inside no_level T) (whole_meant inside T (number_branches inside no_level T) (branches_meant inside [] T))
@@ -382,11 +382,11 @@ mutual
   sequence_meant nothing ns T = record { new = []; items_are = sym (append-nil ns); at_end = no_items; free = λ c i. elim i [ ]; later = later_refl T }
   sequence_meant (item x xs) ns T =
       let M : Made = number_item x T in
-      let m : Ended T M (λ U lo n. Item_at U lo n x) = item_meant x T in
+      let m : Ended T M (λ U lo n. ItemAt U lo n x) = item_meant x T in
       let r : ListedSo M.tables (ns ++ (M.at ∷ [])) (number_sequence xs (ns ++ (M.at ∷ [])) M.tables) xs = sequence_meant xs (ns ++ (M.at ∷ [])) M.tables in
       let S : Tables = (number_sequence xs (ns ++ (M.at ∷ [])) M.tables).tables in
       let z = m.size in
-      let i : Item_at S (length T.nodes) M.at x =
+      let i : ItemAt S (length T.nodes) M.at x =
       frame_item m.at_end S r.later.words (λ j p q. r.later.same j (omega arith)) (skeleton (node S.nodes M.at) (node M.tables.nodes M.at) (r.later.same M.at (omega arith))) in
       record {
         new = M.at ∷ r.new;

@@ -18,25 +18,25 @@ abbrev pub KindNumber : List ℕ → ℕ → Tables → Type 0
 KindNumber w i T = (find_kind w T.kinds ≡ i) × (i < length T.kinds)
 
 mutual
-  pub data Item_at (T : Tables) : ℕ → ℕ → Item → Type 0 where
-    name_at : {n : ℕ} {s : Spot} → (node T.nodes n).class ≡ Name → NameNumber s.bytes (node T.nodes n).value T → Item_at T n n (named s)
-    token_at : {n : ℕ} {k : Terminal} {s : Spot} (i : ℕ) → (node T.nodes n).class ≡ Token → (node T.nodes n).value ≡ suc i → KindNumber s.bytes i T → Item_at T n n (literal k s)
-    round_at : {lo n : ℕ} {s t : Spot} {b : Branches} → BranchesAt T lo n b → Item_at T lo n (group round s b t)
+  pub data ItemAt (T : Tables) : ℕ → ℕ → Item → Type 0 where
+    name_at : {n : ℕ} {s : Spot} → (node T.nodes n).class ≡ Name → NameNumber s.bytes (node T.nodes n).value T → ItemAt T n n (named s)
+    token_at : {n : ℕ} {k : Terminal} {s : Spot} (i : ℕ) → (node T.nodes n).class ≡ Token → (node T.nodes n).value ≡ suc i → KindNumber s.bytes i T → ItemAt T n n (literal k s)
+    round_at : {lo n : ℕ} {s t : Spot} {b : Branches} → BranchesAt T lo n b → ItemAt T lo n (group round s b t)
     square_at : {lo c : ℕ} {s t : Spot} {b : Branches} → (node T.nodes (suc c)).class ≡ Optional → (node T.nodes (suc c)).first ≡ c → (node T.nodes c).next ≡ 1024
-        → BranchesAt T lo c b → Item_at T lo (suc c) (group square s b t)
+        → BranchesAt T lo c b → ItemAt T lo (suc c) (group square s b t)
     curly_at : {lo c : ℕ} {s t : Spot} {b : Branches} → (node T.nodes (suc c)).class ≡ Repetition → (node T.nodes (suc c)).first ≡ c → (node T.nodes c).next ≡ 1024
-        → BranchesAt T lo c b → Item_at T lo (suc c) (group curly s b t)
+        → BranchesAt T lo c b → ItemAt T lo (suc c) (group curly s b t)
 
   -- no item, one item, or a chain of more
   pub data SequenceAt (T : Tables) : ℕ → ℕ → Sequence → Type 0 where
     empty_at : {n : ℕ} → (node T.nodes n).class ≡ Empty → SequenceAt T n n nothing
-    single_at : {lo n : ℕ} {x : Item} → Item_at T lo n x → SequenceAt T lo n (item x nothing)
+    single_at : {lo n : ℕ} {x : Item} → ItemAt T lo n x → SequenceAt T lo n (item x nothing)
     chain_at : {lo n c d : ℕ} {cs : List ℕ} {xs : Sequence} → (node T.nodes n).class ≡ Chain → (node T.nodes n).first ≡ c → Linked T.nodes (c ∷ d ∷ cs)
         → ItemsAt T lo n (c ∷ d ∷ cs) xs → SequenceAt T lo n xs
 
   pub data ItemsAt (T : Tables) : ℕ → ℕ → List ℕ → Sequence → Type 0 where
     no_items : {lo : ℕ} → ItemsAt T lo lo [] nothing
-    more_items : {lo c hi : ℕ} {cs : List ℕ} {x : Item} {xs : Sequence} → Item_at T lo c x → ItemsAt T (suc c) hi cs xs → ItemsAt T lo hi (c ∷ cs) (item x xs)
+    more_items : {lo c hi : ℕ} {cs : List ℕ} {x : Item} {xs : Sequence} → ItemAt T lo c x → ItemsAt T (suc c) hi cs xs → ItemsAt T lo hi (c ∷ cs) (item x xs)
 
   -- one sequence, or an alternative of more
   pub data BranchesAt (T : Tables) : ℕ → ℕ → Branches → Type 0 where

@@ -38,10 +38,10 @@ place_meant None = none
 place_meant (Some p) = some p
 
 -- a list, by what its elements are called in it and by how they are written
-module _ {E A : Type 0} (text : List ℕ) (begins spans : E → ℕ) (meant : E → A) (find : List ℕ → List A → ℕ) (join : A → List A → List A) (FoundNone : (w : List ℕ) → find w [] ≡ 0) (found_more : (w : List ℕ) (e : E) (l : List A) → find w (meant e ∷ l) ≡ cond (bytes_eq (cut text (begins e) (spans e)) w) 0 (suc (find w l))) where
+module _ {E A : Type 0} (text : List ℕ) (begins spans : E → ℕ) (meant : E → A) (find : List ℕ → List A → ℕ) (join : A → List A → List A) (found_none : (w : List ℕ) → find w [] ≡ 0) (found_more : (w : List ℕ) (e : E) (l : List A) → find w (meant e ∷ l) ≡ cond (bytes_eq (cut text (begins e) (spans e)) w) 0 (suc (find w l))) where
   -- the index that a search gives is the number in the notation
   pub found : (w : List ℕ) (es : List E) → prefix_len (differs text begins spans w) es ≡ find w (map meant es)
-  found w [] = sym (FoundNone w)
+  found w [] = sym (found_none w)
   found w (e ∷ es) = go (bytes_eq (cut text (begins e) (spans e)) w) (found w es) ∙ sym (found_more w e (map meant es))
     where
       go : (b : Bool) → prefix_len (differs text begins spans w) es ≡ find w (map meant es) → cond (not b) (1 + prefix_len (differs text begins spans w) es) 0 ≡ cond b 0 (suc (find w (map meant es)))

@@ -35,7 +35,7 @@ module _ (ks : List ℕ) (i : ℕ) where
   look_kind h e = rw (drop_more ks i 0 h, kind_listed i (get_or ks i 0) (drop (i + 1) ks) e)
 
 -- where a look meets a token, the table goes on
-pub record Goes_on (ks : List ℕ) (i : ℕ) (t : TokenOf) : Type 0 where
+pub record GoesOn (ks : List ℕ) (i : ℕ) (t : TokenOf) : Type 0 where
   pub within : i < length ks
   pub tokens : listed i (drop i ks) ≡ t ∷ listed (i + 1) (drop (i + 1) ks)
   pub ending : listed_ending i (drop i ks) ≡ listed_ending (i + 1) (drop (i + 1) ks)
@@ -45,7 +45,7 @@ module _ (ks : List ℕ) (i : ℕ) (t : TokenOf) where
   at_kind k true e h = (cc, e)
   at_kind k false e h = let z : ◌≡◌ {A = ℕ} 0 1 = cc in absurd (omega arith)
 
-  pub goes_on : Ok (Token t) ≡ looked (listed i (drop i ks)) (listed_ending i (drop i ks)) → Goes_on ks i t
+  pub goes_on : Ok (Token t) ≡ looked (listed i (drop i ks)) (listed_ending i (drop i ks)) → GoesOn ks i t
   goes_on h =
       ⊎_elim
       (λ lt.
