@@ -38,6 +38,8 @@ APART_IN = {
     "crates/grammar/specs/Refusals.antt": {"Nodes-full": "NodesFullTold", "Too-long": "TooLongTold"},
     "crates/yields/specs/Marks.antt": {"bit-or": "bit_or"},
 }
+# A word of the Prelude means something else today, so no file may use it for this one.
+ALIAS = "AllByRecursion as All"
 
 
 def files(top, crate):
@@ -126,6 +128,8 @@ def main(top):
             if b in plain:
                 clashes.append(f"{os.path.relpath(p, top)}: {a} and {b}")
         new = "".join(out)
+        if ALIAS in new:
+            new = re.sub(r"\bAll\b(?= [A-Z(]|[;},)])", "AllByRecursion", new).replace("AllByRecursion as AllByRecursion", "AllByRecursion")
         if new != t:
             changed += 1
             with open(p, "w", encoding="utf-8") as f:
