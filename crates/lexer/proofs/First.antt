@@ -1,9 +1,13 @@
 -- The first kind that is written so.
-use Rattle.std.proofs.Common.{◌≡◌, ℕ, zero, suc, ◌+◌, ◌-◌, ◌<◌, ◌≤◌, Bool, true, false, ◌&&◌, leb, List, [], ◌∷◌, length, get_or, take, Some, None, Decides, Option, sym, refl, ap, ◌∙◌, ⊎_elim, arith, length-take, get_or-take}
+use Rattle.std.proofs.Common.{◌≡◌, ℕ, zero, suc, ◌+◌, ◌-◌, ◌<◌, ◌≤◌, Bool, true, false, ◌&&◌, leb, List, [], ◌∷◌, map, cond, length, get_or, take, Some, None, Decides, Option, sym, refl, ap, ◌∙◌, subst, ⊎_elim, arith, length-take, get_or-take}
 use Rattle.std.proofs.lemmas.Slice.Eq.{bytes_eq-Decides}
-use Rattle.std.proofs.lemmas.List.{get_or_past}
+use Rattle.std.proofs.lemmas.List.{get_or_past, take-map}
+use Rattle.std.proofs.lemmas.Iterator.Adapters.{position_from-zero}
+use Rattle.std.specs.List.{position, position_from}
+use Rattle.std.specs.Option.{option_map}
 use Rattle.std.proofs.lemmas.Bool.{cases_lt, cond_both, cond-true, cond-false, and_from, and_parts, le-leb, leb-true, false≢true, both_ways}
-use Rattle.lexer.specs.Vocabulary.{Lexicon, reads, first_from, kind_of, written_as, Names}
+use Rattle.lexer.specs.Vocabulary.{Lexicon, lexicon, spelled, reads, first_from, kind_of, written_as, Names}
+use Rattle.lexer.specs.declared.vocabulary.Vocabulary.{Vocabulary}
 
 module _ {X : Type 0} (p : X → Bool) (d : X) where
   -- what a search that counts from j finds
@@ -66,5 +70,27 @@ module _ (x : Lexicon) (w : List ℕ) where
       let n = length-take 120 x in
       (written_in k low (omega arith) ∙ (reads_decides (get_or (take 120 x) (k - 1) None) w).0 h.2, λ j l e. let r = (in_range j e).0 in never j (h.3 (j - 1) (omega arith)) e)
 
-  pub kind_names : Names x w (kind_of x w)
+  kind_names : Names x w (kind_of x w)
   kind_names = named_by (kind_of x w) (first_finds (λ o. reads o w) None (take 120 x) 1)
+
+-- kinds are counted from the first entry on
+module _ {X Y : Type 0} (f : X → Y) (p : Y → Bool) where
+  counted_on : (xs : List X) (i k : ℕ) → option_map (λ j. j + k) (position_from (λ x. p (f x)) i xs) ≡ first_from p (map f xs) (i + k)
+  counted_on [] i k = refl
+  counted_on (x ∷ xs) i k = go (p (f x)) (counted_on xs (i + 1) k)
+    where
+      go : (b : Bool) → option_map (λ j. j + k) (position_from (λ x. p (f x)) (i + 1) xs) ≡ first_from p (map f xs) (i + 1 + k) → option_map (λ j. j + k) (cond b (Some i) (position_from (λ x. p (f x)) (i + 1) xs)) ≡ cond b (Some (i + k)) (first_from p (map f xs) (i + k + 1))
+      go true h = refl
+      go false h = let same : i + 1 + k ≡ i + k + 1 = omega arith in h ∙ ap (first_from p (map f xs)) same
+
+module _ (v : Vocabulary) (w : List ℕ) (r : Option ℕ) where
+  pub kind_counted : r ≡ position (λ e. reads (spelled v.text.now e) w) (take 120 v.kinds.now) → option_map (λ i. i + 1) r ≡ kind_of (lexicon v) w
+  kind_counted e =
+      let entries = take 120 v.kinds.now in
+      ap (option_map (λ i. i + 1)) (e ∙ position_from-zero (λ e. reads (spelled v.text.now e) w) entries)
+      ∙ counted_on (spelled v.text.now) (λ o. reads o w) entries 0 1
+      ∙ ap (λ l. first_from (λ o. reads o w) l 1) (sym (take-map (spelled v.text.now) 120 v.kinds.now))
+
+-- both clauses, from the first
+pub named : (x : Lexicon) (w : List ℕ) (r : Option ℕ) → r ≡ kind_of x w → record { value : r ≡ kind_of x w; names : Names x w r }
+named x w r e = record { value = e; names = subst (Names x w) (sym e) (kind_names x w) }

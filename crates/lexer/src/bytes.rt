@@ -4,7 +4,7 @@ ghost use Rattle.std.specs.List.{prefix_len};
 ghost use Rattle.lexer.specs.Bytes.{blank, sign, class, goes_on};
 
 // What a byte begins.
-#[derive(Clone, Copy)]
+#[derive(Clone, Copy, Debug, PartialEq, Eq)]
 pub enum ByteClass {
     Blank,
     Comment,
@@ -16,7 +16,7 @@ pub enum ByteClass {
 }
 
 // The bytes that go on with what has begun.
-#[derive(Clone, Copy)]
+#[derive(Clone, Copy, Debug, PartialEq, Eq)]
 pub enum Run {
     Blanks,
     Comment,
@@ -28,19 +28,13 @@ pub enum Run {
 fn is_blank(b: u8) -> bool
     ensures { result ≡ blank b }
 {
-    b == b' ' || b == b'\t' || b == b'\r' || b == b'\n'
+    matches!(b, b' ' | b'\t' | b'\r' | b'\n')
 }
 
 pub fn is_sign(b: u8) -> bool
     ensures { result ≡ sign b }
 {
-    b.is_ascii_punctuation()
-        && b != b'"'
-        && b != b'#'
-        && b != b'\''
-        && b != b'\\'
-        && b != b'_'
-        && b != b'`'
+    b.is_ascii_punctuation() && !matches!(b, b'"' | b'#' | b'\'' | b'\\' | b'_' | b'`')
 }
 
 pub(crate) fn class_of(b: u8) -> ByteClass
@@ -71,7 +65,7 @@ fn continues(run: Run, b: u8) -> bool
         Run::Comment => b != b'\n',
         Run::Word => b.is_ascii_alphanumeric() || b == b'_',
         Run::Digits => b.is_ascii_digit(),
-        Run::Quoted => b != b'"' && b != b'\n',
+        Run::Quoted => !matches!(b, b'"' | b'\n'),
     }
 }
 
@@ -79,9 +73,5 @@ fn continues(run: Run, b: u8) -> bool
 pub fn run_length(rest: &[u8], run: Run) -> usize
     ensures { result ≡ prefix_len (goes_on run) rest.now }
 {
-    let mut n = 0;
-    while n < rest.len() && continues(run, rest[n]) {
-        n += 1;
-    }
-    n
+    rest.iter().take_while(|b| continues(run, **b)).count()
 }

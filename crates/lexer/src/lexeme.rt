@@ -1,7 +1,6 @@
 // One token from the front of a text.
-ghost use Rattle.std.specs.Prelude.{◌≡◌, ◌∷◌};
-ghost use Rattle.lexer.specs.Bytes.{class};
-ghost use Rattle.lexer.specs.Lexeme.{judged, word_kind, string_length, string_lexeme, pair_kind, one_sign, sign_lexeme, by_class, front};
+ghost use Rattle.std.specs.Prelude.{◌≡◌};
+ghost use Rattle.lexer.specs.Lexeme.{judged, word_kind, string_length, string_lexeme, pair_kind, one_sign, sign_lexeme, front};
 ghost use Rattle.lexer.specs.Vocabulary.{lexicon};
 
 use crate::bytes::{ByteClass, Run, class_of, is_sign, run_length};
@@ -17,7 +16,7 @@ pub const COMMENT: u8 = 122;
 const LONGEST: usize = 255;
 
 // What stands at the front of a text.
-#[derive(Clone, Copy)]
+#[derive(Clone, Copy, Debug, PartialEq, Eq)]
 pub struct Lexeme {
     pub kind: u8,
     pub length: usize,
@@ -30,14 +29,12 @@ fn judge(length: usize, kind: Option<u8>) -> Result<Lexeme, FaultCode>
     if length > LONGEST {
         return Err(FaultCode::Oversized);
     }
-    match kind {
-        Some(kind) => Ok(Lexeme { kind, length }),
-        None => Err(FaultCode::NoKind),
-    }
+    let kind = kind.ok_or(FaultCode::NoKind)?;
+    Ok(Lexeme { kind, length })
 }
 
 // A word has the kind of its spelling, else of the class of words.
-fn kind_of_word(word: &[u8], vocabulary: &Vocabulary<'_, '_>) -> Option<u8>
+fn kind_of_word(word: &[u8], vocabulary: &Vocabulary<'_>) -> Option<u8>
     ensures { result ≡ word_kind (lexicon vocabulary.now) word.now }
 {
     match vocabulary.kind_of(Sought::Quoted(word)) {
@@ -58,17 +55,15 @@ fn length_of_string(inside: &[u8]) -> Option<usize>
     }
 }
 
-fn lex_string(inside: &[u8], vocabulary: &Vocabulary<'_, '_>) -> Result<Lexeme, FaultCode>
+fn lex_string(inside: &[u8], vocabulary: &Vocabulary<'_>) -> Result<Lexeme, FaultCode>
     ensures { result ≡ string_lexeme (lexicon vocabulary.now) (string_length inside.now) }
 {
-    match length_of_string(inside) {
-        Some(length) => judge(length, vocabulary.kind_of(Sought::Class(b"STRING"))),
-        None => Err(FaultCode::Unclosed),
-    }
+    let length = length_of_string(inside).ok_or(FaultCode::Unclosed)?;
+    judge(length, vocabulary.kind_of(Sought::Class(b"STRING")))
 }
 
 // The kind of two sign bytes, if the grammar spells the pair.
-fn kind_of_pair(first: u8, second: u8, vocabulary: &Vocabulary<'_, '_>) -> Option<u8>
+fn kind_of_pair(first: u8, second: u8, vocabulary: &Vocabulary<'_>) -> Option<u8>
     ensures { result ≡ pair_kind (lexicon vocabulary.now) first second }
 {
     if !is_sign(second) {
@@ -77,14 +72,14 @@ fn kind_of_pair(first: u8, second: u8, vocabulary: &Vocabulary<'_, '_>) -> Optio
     vocabulary.kind_of(Sought::Quoted(&[first, second]))
 }
 
-fn lex_one_sign(first: u8, vocabulary: &Vocabulary<'_, '_>) -> Result<Lexeme, FaultCode>
+fn lex_one_sign(first: u8, vocabulary: &Vocabulary<'_>) -> Result<Lexeme, FaultCode>
     ensures { result ≡ one_sign (lexicon vocabulary.now) first }
 {
     judge(1, vocabulary.kind_of(Sought::Quoted(&[first])))
 }
 
 // Two sign bytes if the grammar spells the pair, else one.
-fn lex_sign(rest: &[u8], vocabulary: &Vocabulary<'_, '_>) -> Result<Lexeme, FaultCode>
+fn lex_sign(rest: &[u8], vocabulary: &Vocabulary<'_>) -> Result<Lexeme, FaultCode>
     ensures { result ≡ sign_lexeme (lexicon vocabulary.now) rest.now }
 {
     match rest {
@@ -97,17 +92,14 @@ fn lex_sign(rest: &[u8], vocabulary: &Vocabulary<'_, '_>) -> Result<Lexeme, Faul
     }
 }
 
-// What stands at the front, by the class of its first byte.
-fn lex_class(
-    first: u8,
-    after: &[u8],
-    rest: &[u8],
-    vocabulary: &Vocabulary<'_, '_>,
-) -> Result<Lexeme, FaultCode>
-    requires { rest.now ≡ first ∷ after.now }
-    ensures { result ≡ by_class (lexicon vocabulary.now) (class first) first after.now }
+// The token at the front of a text that has a byte left.
+pub fn lex(rest: &[u8], vocabulary: &Vocabulary<'_>) -> Result<Lexeme, FaultCode>
+    ensures { result ≡ front (lexicon vocabulary.now) rest.now }
 {
-    match class_of(first) {
+    let [first, after @ ..] = rest else {
+        return Err(FaultCode::BeginsNothing);
+    };
+    match class_of(*first) {
         ByteClass::Blank => Ok(Lexeme {
             kind: BLANK,
             length: run_length(rest, Run::Blanks),
@@ -118,7 +110,7 @@ fn lex_class(
         }),
         ByteClass::Word => {
             let length = run_length(rest, Run::Word);
-            judge(length, kind_of_word(&rest[0..length], vocabulary))
+            judge(length, kind_of_word(&rest[..length], vocabulary))
         }
         ByteClass::Number => {
             let length = run_length(rest, Run::Digits);
@@ -128,14 +120,4 @@ fn lex_class(
         ByteClass::Sign => lex_sign(rest, vocabulary),
         ByteClass::Nothing => Err(FaultCode::BeginsNothing),
     }
-}
-
-// The token at the front of a text that has a byte left.
-pub fn lex(rest: &[u8], vocabulary: &Vocabulary<'_, '_>) -> Result<Lexeme, FaultCode>
-    ensures { result ≡ front (lexicon vocabulary.now) rest.now }
-{
-    let [first, after @ ..] = rest else {
-        return Err(FaultCode::BeginsNothing);
-    };
-    lex_class(*first, after, rest, vocabulary)
 }

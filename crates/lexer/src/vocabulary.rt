@@ -1,5 +1,6 @@
 // The kinds of a grammar, by how its text spells them.
-ghost use Rattle.std.specs.Prelude.{◌≡◌, length as size, ◌==◌};
+ghost use Rattle.std.specs.Prelude.{◌≡◌, ◌<◌, take, IfSome};
+ghost use Rattle.std.specs.List.{position};
 ghost use Rattle.std.specs.Option.{option_map};
 ghost use Rattle.std.specs.Str.{bytes_eq};
 ghost use Rattle.lexer.specs.Parts.{part_of};
@@ -9,7 +10,7 @@ ghost use Rattle.lexer.specs.Vocabulary.{quoted, written, reads, spelled, lexico
 const KINDS: usize = 120;
 
 // Where a grammar's text first spells a kind: a class word, or a spelling with its quotes.
-#[derive(Clone, Copy, Debug, PartialEq, Eq)]
+#[derive(Clone, Copy, Debug, Default, PartialEq, Eq)]
 pub struct Spelling {
     pub place: usize,
     pub length: usize,
@@ -17,7 +18,7 @@ pub struct Spelling {
 
 // What a kind is sought for: a class of tokens by its word, or a word or sign by its bytes,
 // which a grammar writes in quotes.
-#[derive(Clone, Copy)]
+#[derive(Clone, Copy, Debug)]
 pub enum Sought<'a> {
     Class(&'a [u8]),
     Quoted(&'a [u8]),
@@ -25,31 +26,17 @@ pub enum Sought<'a> {
 
 // A grammar's text and where it spells its kinds: the entry at index i spells kind i + 1. Any
 // values will do; an entry that reaches past the text spells nothing.
-#[derive(Clone, Copy)]
-pub struct Vocabulary<'t, 'k> {
-    pub text: &'t [u8],
-    pub kinds: &'k [Spelling],
+#[derive(Clone, Copy, Debug)]
+pub struct Vocabulary<'g> {
+    pub text: &'g [u8],
+    pub kinds: &'g [Spelling],
 }
 
 // A part of the text, or none where it reaches past the end.
 pub fn part(text: &[u8], place: usize, length: usize) -> Option<&[u8]>
     ensures { option_map (λ x. x.now) result ≡ part_of text.now place length }
 {
-    if place <= text.len() && length <= text.len() - place {
-        Some(&text[place..place + length])
-    } else {
-        None
-    }
-}
-
-// Whether what is sought is that long in the grammar's text, its quotes counted.
-fn has_length(sought: Sought<'_>, length: usize) -> bool
-    ensures { result ≡ (length == size (written sought.entry)) }
-{
-    match sought {
-        Sought::Class(word) => length == word.len(),
-        Sought::Quoted(inside) => length >= 2 && length - 2 == inside.len(),
-    }
+    text.get(place..)?.get(..length)
 }
 
 // A class goes by its word, and a spelling stands in quotes.
@@ -65,27 +52,30 @@ fn is_written(bytes: &[u8], sought: Sought<'_>) -> bool
 fn is_quoted(bytes: &[u8], inside: &[u8]) -> bool
     ensures { result ≡ bytes_eq bytes.now (quoted inside.now) }
 {
-    let [b'"', rest @ ..] = bytes else {
-        return false;
-    };
-    let [inner @ .., b'"'] = rest else {
-        return false;
-    };
-    inner == inside
+    match bytes {
+        [b'"', inner @ .., b'"'] => inner == inside,
+        _ => false,
+    }
 }
 
-impl Vocabulary<'_, '_> {
-    // Whether the entry spells what is sought. The length alone excludes most entries.
+impl Vocabulary<'_> {
+    // Whether the entry spells what is sought.
     fn is_spelled(&self, spelling: Spelling, sought: Sought<'_>) -> bool
         ensures { result ≡ reads (spelled self.now.text.now spelling) (written sought.entry) }
     {
-        if !has_length(sought, spelling.length) {
-            return false;
-        }
         match part(self.text, spelling.place, spelling.length) {
             Some(bytes) => is_written(bytes, sought),
             None => false,
         }
+    }
+
+    // The index of the first entry that spells what is sought.
+    fn index_of(&self, sought: Sought<'_>) -> Option<usize>
+        ensures first { result ≡ position (λ e. reads (spelled self.now.text.now e) (written sought.entry)) (take 120 self.now.kinds.now) }
+        ensures few { IfSome result (λ i. i < 120) }
+    {
+        let mut kinds = self.kinds.iter().take(KINDS);
+        kinds.position(|spelling| self.is_spelled(*spelling, sought))
     }
 
     // The kind of the first entry that spells what is sought, or none.
@@ -93,11 +83,7 @@ impl Vocabulary<'_, '_> {
         ensures value { result ≡ kind_of (lexicon self.now) (written sought.entry) }
         ensures names { Names (lexicon self.now) (written sought.entry) result }
     {
-        for i in 0..self.kinds.len().min(KINDS) {
-            if self.is_spelled(self.kinds[i], sought) {
-                return Some(i as u8 + 1);
-            }
-        }
-        None
+        let index = self.index_of(sought)?;
+        Some(index as u8 + 1)
     }
 }

@@ -1,5 +1,5 @@
 // Refusals, told by their number and their values.
-ghost use Rattle.std.specs.Prelude.{◌≡◌, List, ℕ, get_or};
+ghost use Rattle.std.specs.Prelude.{◌≡◌, List, ℕ, slice_index};
 ghost use Rattle.token.specs.Refusals.{too_long, nothing_left};
 
 // A refusal: its number and then its values in order are its whole meaning.
@@ -8,11 +8,11 @@ pub trait Numbered {
 
     // Its number, from 1 to 26.
     fn number(&self) -> u8
-        ensures { result ≡ get_or (numbered self.now) 0 0 };
+        ensures { result ≡ slice_index (numbered self.now) 0 };
 
     // The first of its values.
     fn value(&self) -> usize
-        ensures { result ≡ get_or (numbered self.now) 1 0 };
+        ensures { result ≡ slice_index (numbered self.now) 1 };
 }
 
 // A text is too long: refusal 1, with how many bytes are allowed.

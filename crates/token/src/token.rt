@@ -14,7 +14,7 @@ pub struct Token {
 #[derive(Clone, Copy, Debug, PartialEq, Eq)]
 pub enum FaultCode {
     // The byte begins no token.
-    BeginsNothing,
+    BeginsNothing = 1,
     // The string is not closed on its line.
     Unclosed,
     // The token has more than 255 bytes.
@@ -30,13 +30,7 @@ impl FaultCode {
     pub fn number(self) -> u8
         ensures { result ≡ fault_number self }
     {
-        match self {
-            FaultCode::BeginsNothing => 1,
-            FaultCode::Unclosed => 2,
-            FaultCode::Oversized => 3,
-            FaultCode::NoKind => 4,
-            FaultCode::OutOfRange => 5,
-        }
+        self as u8
     }
 }
 

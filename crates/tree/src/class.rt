@@ -3,9 +3,10 @@ ghost use Rattle.std.specs.Prelude.{◌≡◌};
 ghost use Rattle.tree.specs.Tree.{class_number};
 
 // What a node is, numbered 0 to 6 in this order.
-#[derive(Clone, Copy, Debug, PartialEq, Eq)]
+#[derive(Clone, Copy, Debug, Default, PartialEq, Eq)]
 pub enum Class {
     // Nothing at all.
+    #[default]
     Empty,
     // A token of one kind.
     Token,
@@ -26,14 +27,6 @@ impl Class {
     pub fn number(self) -> u8
         ensures { result ≡ class_number self }
     {
-        match self {
-            Class::Empty => 0,
-            Class::Token => 1,
-            Class::Name => 2,
-            Class::Chain => 3,
-            Class::Alternative => 4,
-            Class::Optional => 5,
-            Class::Repetition => 6,
-        }
+        self as u8
     }
 }

@@ -6,7 +6,7 @@ pub const NONE: u16 = 1024;
 
 // A node: its class, its value (the kind of a token, the number of a name, otherwise 0), its first
 // child and its next sibling, each by number.
-#[derive(Clone, Copy, Debug, PartialEq, Eq)]
+#[derive(Clone, Copy, Debug, Default, PartialEq, Eq)]
 pub struct Node {
     pub class: Class,
     pub value: u16,
