@@ -1,5 +1,6 @@
 pub mod Ended
-pub mod Filled
+pub mod Kept
 pub mod Meant
-pub mod Rooted
+pub mod Named
+pub mod Numbered
 pub mod Rows

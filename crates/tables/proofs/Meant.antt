@@ -11,9 +11,13 @@ use Rattle.notation.specs.Reading.{has_rule, ruleless}
 use Rattle.notation.specs.Tables.{find_name, find_kind, with_name, with_kind, with_root}
 use Rattle.tables.specs.Meant.{spot_at, kind_meant, root_meant, name_meant}
 use Rattle.tables.specs.Names.{rooted, ruled, lowest_unruled}
-use Rattle.tables.specs.Records.{with_new, place_among}
-use Rattle.tables.specs.Spots.{cut, differs}
+use Rattle.tables.specs.Numbering.{with_new, place_among}
+use Rattle.tables.specs.Spots.{cut}
 use Rattle.tables.specs.declared.name.Name.{Name}
+
+-- an entry that is not written as w
+abbrev differs : {E : Type 0} → List ℕ → (E → ℕ) → (E → ℕ) → List ℕ → E → Bool
+differs text begins spans w e = not (bytes_eq (cut text (begins e) (spans e)) w)
 
 -- a new one makes the list one longer
 long_new : {E : Type 0} (i : ℕ) (e : E) (es : List E) → i ≡ length es → length (with_new i e es) ≡ suc (length es)
@@ -50,7 +54,7 @@ module _ {E A : Type 0} (text : List ℕ) (begins spans : E → ℕ) (meant : E 
 
   module _ (new : E) (joined_none : join (meant new) [] ≡ meant new ∷ []) (joined_more : (e : E) (l : List A) → join (meant new) (meant e ∷ l) ≡ cond (bytes_eq (cut text (begins e) (spans e)) (cut text (begins new) (spans new))) (meant e ∷ l) (meant e ∷ join (meant new) l)) where
     abbrev among : List E → ℕ
-    among es = place_among begins spans new text es
+    among es = place_among begins spans text new es
 
     known : (es : List E) → among es < length es → join (meant new) (map meant es) ≡ map meant es
     known [] h = absurd (omega arith)
@@ -77,17 +81,17 @@ module _ {E A : Type 0} (text : List ℕ) (begins spans : E → ℕ) (meant : E 
         (cases_lt (among es) (length es))
 
 module _ (text : List ℕ) where
-  pub kind_found : (s : Spelling) (es : List Spelling) → place_among (λ e. e.place) (λ e. e.length) s text es ≡ find_kind (cut text s.place s.length) (map (kind_meant text) es)
+  pub kind_found : (s : Spelling) (es : List Spelling) → place_among (λ e. e.place) (λ e. e.length) text s es ≡ find_kind (cut text s.place s.length) (map (kind_meant text) es)
   kind_found s es = found text (λ e. e.place) (λ e. e.length) (kind_meant text) find_kind with_kind (λ w. refl) (λ w e l. refl) (cut text s.place s.length) es
 
-  pub kind_joined : (s : Spelling) (es : List Spelling) → with_kind (kind_meant text s) (map (kind_meant text) es) ≡ map (kind_meant text) (with_new (place_among (λ e. e.place) (λ e. e.length) s text es) s es)
+  pub kind_joined : (s : Spelling) (es : List Spelling) → with_kind (kind_meant text s) (map (kind_meant text) es) ≡ map (kind_meant text) (with_new (place_among (λ e. e.place) (λ e. e.length) text s es) s es)
   kind_joined s es = joined text (λ e. e.place) (λ e. e.length) (kind_meant text) find_kind with_kind (λ w. refl) (λ w e l. refl) s refl (λ e l. refl) es
 
-  pub name_found : (n : Name) (es : List Name) → place_among (λ e. e.place) (λ e. e.length) n text es ≡ find_name (cut text n.place n.length) (map (name_meant text) es)
+  pub name_found : (n : Name) (es : List Name) → place_among (λ e. e.place) (λ e. e.length) text n es ≡ find_name (cut text n.place n.length) (map (name_meant text) es)
   name_found n es = found text (λ e. e.place) (λ e. e.length) (name_meant text) find_name (λ e. with_name e.first) (λ w. refl) (λ w e l. refl) (cut text n.place n.length) es
 
   -- a name is known without a rule at first
-  pub name_joined : (n : Name) (es : List Name) → n.root ≡ 1024 → with_name (spot_at text n.place n.length) (map (name_meant text) es) ≡ map (name_meant text) (with_new (place_among (λ e. e.place) (λ e. e.length) n text es) n es)
+  pub name_joined : (n : Name) (es : List Name) → n.root ≡ 1024 → with_name (spot_at text n.place n.length) (map (name_meant text) es) ≡ map (name_meant text) (with_new (place_among (λ e. e.place) (λ e. e.length) text n es) n es)
   name_joined n es free =
       joined text (λ e. e.place) (λ e. e.length) (name_meant text) find_name (λ e. with_name e.first) (λ w. refl) (λ w e l. refl) n
       (ap (λ r. record { first = spot_at text n.place n.length; root = r } ∷ []) (sym (cond-true (eqb n.root 1024) none (some n.root) (eq-eqb n.root 1024 free))))
@@ -107,8 +111,8 @@ module _ (text : List ℕ) where
       go false i h = ap (λ k. ruled k (e ∷ es)) (one-add i) ∙ h
 
   -- a name has a rule in the table just if it has one in the notation
-  pub name_ruled : (n : Name) (es : List Name) → n.root ≡ 1024 → ruled (place_among (λ e. e.place) (λ e. e.length) n text es) (with_new (place_among (λ e. e.place) (λ e. e.length) n text es) n es) ≡ has_rule (cut text n.place n.length) (map (name_meant text) es)
-  name_ruled n es free = unruled_new n free es (place_among (λ e. e.place) (λ e. e.length) n text es) ∙ ruled_meant (cut text n.place n.length) es
+  pub name_ruled : (n : Name) (es : List Name) → n.root ≡ 1024 → ruled (place_among (λ e. e.place) (λ e. e.length) text n es) (with_new (place_among (λ e. e.place) (λ e. e.length) text n es) n es) ≡ has_rule (cut text n.place n.length) (map (name_meant text) es)
+  name_ruled n es free = unruled_new n free es (place_among (λ e. e.place) (λ e. e.length) text n es) ∙ ruled_meant (cut text n.place n.length) es
 
   lowest_meant : (es : List Name) → ruleless (map (name_meant text) es) ≡ place_meant (lowest_unruled es)
   lowest_meant [] = refl
@@ -126,8 +130,8 @@ module _ (text : List ℕ) where
   none_unruled es e = lowest_meant es ∙ ap place_meant e
 
   -- one that is new makes the list one longer
-  pub kind_count : (s : Spelling) (es : List Spelling) → place_among (λ e. e.place) (λ e. e.length) s text es ≡ length es → length (with_kind (kind_meant text s) (map (kind_meant text) es)) ≡ suc (length es)
+  pub kind_count : (s : Spelling) (es : List Spelling) → place_among (λ e. e.place) (λ e. e.length) text s es ≡ length es → length (with_kind (kind_meant text s) (map (kind_meant text) es)) ≡ suc (length es)
   kind_count s es new = ap length (kind_joined s es) ∙ length-map (with_new _ s es) (kind_meant text) ∙ long_new _ s es new
 
-  pub name_count : (n : Name) (es : List Name) → n.root ≡ 1024 → place_among (λ e. e.place) (λ e. e.length) n text es ≡ length es → length (with_name (spot_at text n.place n.length) (map (name_meant text) es)) ≡ suc (length es)
+  pub name_count : (n : Name) (es : List Name) → n.root ≡ 1024 → place_among (λ e. e.place) (λ e. e.length) text n es ≡ length es → length (with_name (spot_at text n.place n.length) (map (name_meant text) es)) ≡ suc (length es)
   name_count n es free new = ap length (name_joined n es free) ∙ length-map (with_new _ n es) (name_meant text) ∙ long_new _ n es new

@@ -1,26 +1,18 @@
--- Nodes in a table that is filled from place 0 on.
-use Rattle.std.proofs.Common.{◌≡◌, ℕ, ◌+◌, ◌-◌, ◌<◌, ◌≤◌, ◌⊎◌, List, [], ◌∷◌, length, get_or, take, drop, set, sym, refl, ap, ◌∙◌, ⊎_elim, arith, length-take, get_or-take}
-use lib.Seq.{take-set-lt, set_out}
-use Rattle.std.proofs.lemmas.List.{get_or_default, drop_more, drop_all, drop-drop}
+-- Nodes that are joined, one after another.
+use Rattle.std.proofs.Common.{◌≡◌, ℕ, ◌+◌, ◌-◌, ◌<◌, ◌≤◌, List, [], ◌∷◌, length, get_or, take, drop, set, sym, refl, ap, ◌∙◌, arith, get_or-take}
+use lib.Seq.{take-set-lt}
+use Rattle.std.proofs.lemmas.List.{get_or_default, drop_more, drop_all}
 use Rattle.notation.specs.Tables.{join, link}
-use Rattle.tables.specs.Nodes.{RestKept}
-use Rattle.tables.specs.declared.nodes.Nodes.{Nodes}
 use Rattle.tree.specs.Tree.{no_node, node}
 use Rattle.tree.specs.declared.node.Node.{Node}
 
 abbrev pub with_next : Node → ℕ → Node
 with_next x m = record { class = x.class; value = x.value; first = x.first; next = m }
 
-module _ (xs : List Node) (count n m : ℕ) where
-  pub joined : (d : Node) → n < count → n < length xs → take count (set xs n (with_next (get_or xs n d) m)) ≡ join n m (take count xs)
-  joined d made within =
-      let same : get_or xs n d ≡ node (take count xs) n = get_or_default xs n d no_node within ∙ sym (get_or-take count xs n no_node made) in
-      take-set-lt count xs n (with_next (get_or xs n d) m) made ∙ ap (λ x. set (take count xs) n (with_next x m)) same
-
-  pub not_joined : (count ≤ n) ⊎ (length xs ≤ n) → take count xs ≡ join n m (take count xs)
-  not_joined out =
-      let short = length-take count xs in
-      sym (set_out (take count xs) n (with_next (node (take count xs) n) m) (⊎_elim (λ h. omega arith) (λ h. omega arith) out))
+pub joined : (xs : List Node) (count n m : ℕ) (d : Node) → n < count → n < length xs → take count (set xs n (with_next (get_or xs n d) m)) ≡ join n m (take count xs)
+joined xs count n m d made within =
+    let same : get_or xs n d ≡ node (take count xs) n = get_or_default xs n d no_node within ∙ sym (get_or-take count xs n no_node made) in
+    take-set-lt count xs n (with_next (get_or xs n d) m) made ∙ ap (λ x. set (take count xs) n (with_next x m)) same
 
 -- a row is linked from its last node on
 pub linked_last : (row : List ℕ) (ns : List Node) → ns ≡ link (drop (length row - 1) row) ns
@@ -37,13 +29,3 @@ linked_more row i ns more within =
     let second : drop (i - 1) row ≡ get_or row (i - 1) 0 ∷ drop (i - 1 + 1) row = drop_more row (i - 1) 0 (omega arith) in
     let first : drop (i - 1 - 1) row ≡ get_or row (i - 1 - 1) 0 ∷ drop (i - 1) row = drop_more row (i - 1 - 1) 0 (omega arith) ∙ ap (λ k. get_or row (i - 1 - 1) 0 ∷ drop k row) next in
     ap (λ l. join (get_or row (i - 1 - 1) 0) (get_or row (i - 1) 0) (link l ns)) second ∙ sym (ap (λ l. link l ns) (first ∙ ap (λ l. get_or row (i - 1 - 1) 0 ∷ l) second))
-
-pub kept_none : (t : Nodes) → RestKept t t
-kept_none t = record { grows = omega arith; rest = refl; long = refl }
-
-pub kept_more : (a b c : Nodes) → RestKept a b → RestKept b c → RestKept a c
-kept_more a b c p q =
-    let n = c.count in
-    let over : n ≡ (n - b.count) + b.count = omega (arith, q.grows) in
-    let on : (xs : List Node) → drop n xs ≡ drop (n - b.count) (drop b.count xs) = λ xs. ap (λ k. drop k xs) (omega (arith, q.grows)) ∙ sym (drop-drop (n - b.count) b.count xs) in
-    record { grows = omega (arith, p.grows, q.grows); rest = q.rest ∙ on b.table.now ∙ ap (drop (n - b.count)) p.rest ∙ sym (on a.table.now); long = q.long ∙ p.long }

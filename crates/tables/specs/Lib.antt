@@ -1,5 +1,6 @@
+pub mod Filling
 pub mod Meant
 pub mod Names
 pub mod Nodes
-pub mod Records
+pub mod Numbering
 pub mod Spots

@@ -1,3 +1,3 @@
 // A table has no place left for one more.
-#[derive(Clone, Copy)]
+#[derive(Clone, Copy, Debug, PartialEq, Eq)]
 pub struct Full;

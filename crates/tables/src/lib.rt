@@ -1,17 +1,18 @@
 // The tables of a grammar while its text is read: each is lent, and filled from place 0 on.
 #![tactic(auto)]
 
+mod entries;
+mod filling;
 mod full;
 mod name;
 mod names;
 mod nodes;
-mod spots;
+mod numbering;
 mod spotted;
 mod wipe;
 
+pub use filling::{Filling, KINDS, Kinds, NAMES, NODES, Names, Nodes};
 pub use full::Full;
 pub use name::Name;
-pub use nodes::Nodes;
-pub use spots::Spots;
 pub use spotted::{Spotted, clip};
 pub use wipe::wipe_table;

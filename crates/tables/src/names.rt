@@ -1,41 +1,36 @@
 // The roots of names.
 ghost use Rattle.std.specs.Prelude.{◌≡◌};
+ghost use Rattle.tables.specs.Filling.{entries, RestKept};
 ghost use Rattle.tables.specs.Names.{rooted, ruled, lowest_unruled};
-ghost use Rattle.tables.specs.Records.{records, RestKept};
 
-use crate::name::Name;
-use crate::spots::Spots;
+use crate::filling::Names;
 use tree::NONE;
 
-impl Spots<'_, '_, Name> {
+impl Names<'_> {
     // The rule of a name that is known has this root.
     pub fn set_root(&mut self, name: usize, root: u16)
-        ensures list { records self.new ≡ rooted name root (records self.old) }
+        ensures list { entries self.new ≡ rooted name root (entries self.old) }
         ensures kept { RestKept self.old self.new }
         ensures loan { self.new.table.ghost_name ≡ self.old.table.ghost_name }
     {
-        if name < self.known() {
+        if name < self.count {
             self.table[name].root = root;
         }
     }
 
     // Whether a name is known and has a rule.
     pub fn has_rule(&self, name: usize) -> bool
-        ensures { result ≡ ruled name (records self.now) }
+        ensures { result ≡ ruled name (entries self.now) }
     {
-        name < self.known() && self.table[name].root != NONE
+        name < self.count && self.table[name].root != NONE
     }
 
     // The first place of the lowest name that has no rule.
     pub fn unruled(&self) -> Option<usize>
-        ensures { result ≡ lowest_unruled (records self.now) }
+        ensures { result ≡ lowest_unruled (entries self.now) }
     {
-        for i in 0..self.known() {
-            let name = self.table[i];
-            if name.root == NONE {
-                return Some(name.place);
-            }
-        }
-        None
+        let mut known = self.entries().iter();
+        let name = known.find(|name| name.root == NONE)?;
+        Some(name.place)
     }
 }

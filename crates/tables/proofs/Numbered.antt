@@ -1,0 +1,32 @@
+-- One that is known, or new, or one too many.
+use Rattle.std.proofs.Common.{◌≡◌, ℕ, not, ltb, List, ◌++◌, ◌∷◌, [], length, Ok, Err, Some, None, Result, sym, ◌∙◌, ⊎_elim, arith, MatchResult}
+use Rattle.std.proofs.lemmas.Bool.{cases_lt, cond-true, cond-false, lt-ltb, le-ltb}
+use Rattle.std.proofs.lemmas.List.Sums.{prefix_len-le-length}
+use Rattle.std.proofs.lemmas.Option.{none-some}
+use Rattle.std.specs.List.{position}
+use Rattle.tables.specs.Filling.{entries, Added, IsFull}
+use Rattle.tables.specs.Numbering.{is_written, place_among, Numbered, Refused}
+use Rattle.tables.specs.declared.filling.Filling.{Filling}
+use Rattle.tables.specs.declared.full.Full.{Full}
+
+module _ {E : Type 0} (begins spans : E → ℕ) (text : List ℕ) (e : E) where
+  -- where no entry is written as e, as many are passed as there are
+  none_among : (es : List E) → None ≡ position (is_written begins spans text e) es → place_among begins spans text e es ≡ length es
+  none_among es none =
+      let i = place_among begins spans text e es in
+      ⊎_elim
+      (λ less. absurd (none-some i (none ∙ cond-true (ltb i (length es)) (Some i) None (lt-ltb i (length es) less))))
+      (λ all. omega (arith, prefix_len-le-length (λ x. not (is_written begins spans text e x)) es))
+      (cases_lt i (length es))
+
+  module _ {L : ℕ} (before after : Filling E L) (none : None ≡ position (is_written begins spans text e) (entries before)) where
+    pub numbered : (r : Result ℕ Full) → MatchResult r (Added e before after) (λ _. IsFull before after) → MatchResult r (Numbered begins spans text e before after) (λ _. Refused begins spans text e before after)
+    numbered (Ok n) a =
+        let last = a.index in
+        record {
+          is = a.index ∙ sym (none_among (entries before) none);
+          list = a.more ∙ sym (cond-false (ltb n (length (entries before))) (entries before) (entries before ++ e ∷ []) (le-ltb n (length (entries before)) (omega arith)));
+          kept = a.kept;
+          fits = a.fits;
+        }
+    numbered (Err x) f = record { new = none_among (entries before) none; full = f.full; same = f.same }

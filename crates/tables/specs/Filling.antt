@@ -1,0 +1,35 @@
+-- What a table holds that is filled from place 0 on.
+use Rattle.std.specs.Prelude.{◌≡◌, ℕ, ◌≤◌, min, List, [], ◌∷◌, ◌++◌, length, take, drop, replicate}
+use Rattle.tables.specs.declared.filling.Filling.{Filling}
+
+module _ {E : Type 0} {L : ℕ} where
+  -- its entries
+  abbrev pub entries : Filling E L → List E
+  entries t = take t.count t.table.now
+
+  -- how many there can be
+  abbrev pub room : Filling E L → ℕ
+  room t = min L (length t.table.now)
+
+  -- there is no entry, and every place is wiped
+  pub record IsNew (table : List E) (zero : E) (t : Filling E L) : Type 0 where
+    pub none : entries t ≡ []
+    pub wiped : t.table.now ≡ replicate (length table) zero
+
+  -- places past the entries are as they were, and no entry is given up
+  pub record RestKept (before after : Filling E L) : Type 0 where
+    pub grows : before.count ≤ after.count
+    pub rest : drop after.count after.table.now ≡ drop after.count before.table.now
+    pub long : length after.table.now ≡ length before.table.now
+
+  -- one more entry, at that index
+  pub record Added (e : E) (before after : Filling E L) (n : ℕ) : Type 0 where
+    pub index : n ≡ length (entries before)
+    pub more : entries after ≡ entries before ++ e ∷ []
+    pub kept : RestKept before after
+    pub fits : length (entries after) ≤ room before
+
+  -- as many entries as there can be
+  pub record IsFull (before after : Filling E L) : Type 0 where
+    pub full : room before ≤ length (entries before)
+    pub same : after ≡ before
