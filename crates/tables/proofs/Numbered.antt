@@ -20,7 +20,7 @@ module _ {E : Type 0} (begins spans : E → ℕ) (text : List ℕ) (e : E) where
       (cases_lt i (length es))
 
   module _ {L : ℕ} (before after : Filling E L) (none : None ≡ position (is_written begins spans text e) (entries before)) where
-    pub numbered : (r : Result ℕ Full) → MatchResult r (Added e before after) (λ _. IsFull before after) → MatchResult r (Numbered begins spans text e before after) (λ _. Refused begins spans text e before after)
+    pub numbered : (r : Result ℕ Full) → MatchResult r (Added e before after) (IsFull before after) → MatchResult r (Numbered begins spans text e before after) (Refused begins spans text e before after)
     numbered (Ok n) a =
         let last = a.index in
         record {
@@ -29,4 +29,4 @@ module _ {E : Type 0} (begins spans : E → ℕ) (text : List ℕ) (e : E) where
           kept = a.kept;
           fits = a.fits;
         }
-    numbered (Err x) f = record { new = none_among (entries before) none; full = f.full; same = f.same }
+    numbered (Err x) f = record { new = none_among (entries before) none; full = f.full; told = f.told; same = f.same }

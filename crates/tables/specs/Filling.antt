@@ -1,6 +1,7 @@
 -- What a table holds that is filled from place 0 on.
 use Rattle.std.specs.Prelude.{◌≡◌, ℕ, ◌≤◌, min, List, [], ◌∷◌, ◌++◌, length, take, drop, replicate}
 use Rattle.tables.specs.declared.filling.Filling.{Filling}
+use Rattle.tables.specs.declared.full.Full.{Full}
 
 module _ {E : Type 0} {L : ℕ} where
   -- its entries
@@ -30,6 +31,7 @@ module _ {E : Type 0} {L : ℕ} where
     pub fits : length (entries after) ≤ room before
 
   -- as many entries as there can be
-  pub record IsFull (before after : Filling E L) : Type 0 where
+  pub record IsFull (before after : Filling E L) (e : Full) : Type 0 where
     pub full : room before ≤ length (entries before)
+    pub told : e.limit ≡ room before
     pub same : after ≡ before

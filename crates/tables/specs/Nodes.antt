@@ -3,6 +3,7 @@ use Rattle.std.specs.Prelude.{◌≡◌, ℕ, ◌<◌, ◌≤◌, List, [], ◌�
 use Rattle.notation.specs.Tables.{add, link}
 use Rattle.tables.specs.Filling.{entries, room, RestKept}
 use Rattle.tables.specs.declared.filling.Filling.{Filling}
+use Rattle.tables.specs.declared.full.Full.{Full}
 use Rattle.tree.specs.declared.class.Class.{Class}
 use Rattle.tree.specs.declared.class.Class.TheVariants.{Empty}
 use Rattle.tree.specs.declared.node.Node.{Node}
@@ -38,7 +39,8 @@ pub record RowEnded (c : Class) (row : List ℕ) (before after : Nodes) (n : ℕ
   pub kept : RestKept before after
   pub fits : (length row ≢ 1) → length (entries after) ≤ room before
 
-pub record RowRefused (c : Class) (row : List ℕ) (before after : Nodes) : Type 0 where
+pub record RowRefused (c : Class) (row : List ℕ) (before after : Nodes) (e : Full) : Type 0 where
   pub full : room before < length (over_row c row (entries before)).nodes
+  pub told : e.limit ≡ room before
   pub nodes : entries after ≡ link row (entries before)
   pub kept : RestKept before after

@@ -5,6 +5,7 @@ use Rattle.std.specs.Str.{bytes_eq}
 use Rattle.tables.specs.Filling.{entries, room, RestKept}
 use Rattle.tables.specs.Spots.{cut}
 use Rattle.tables.specs.declared.filling.Filling.{Filling}
+use Rattle.tables.specs.declared.full.Full.{Full}
 
 -- the list with one more, unless index i lies within it
 abbrev pub with_new : {E : Type 0} → ℕ → E → List E → List E
@@ -28,7 +29,8 @@ module _ {E : Type 0} (begins spans : E → ℕ) (text : List ℕ) (e : E) where
       pub fits : length (entries after) ≤ room before
 
     -- none is written as e, and there can be no more
-    pub record Refused (before after : Filling E L) : Type 0 where
+    pub record Refused (before after : Filling E L) (x : Full) : Type 0 where
       pub new : place_among (entries before) ≡ length (entries before)
       pub full : room before ≤ length (entries before)
+      pub told : x.limit ≡ room before
       pub same : after ≡ before

@@ -41,12 +41,13 @@ impl<E: Copy, const LIMIT: usize> Filling<'_, E, LIMIT> {
 
     // One more entry, and its index; refused where the table is full.
     pub fn push(&mut self, entry: E) -> Result<usize, Full>
-        ensures told { MatchResult result (Added entry self.old self.new) (λ _. IsFull self.old self.new) }
+        ensures told { MatchResult result (Added entry self.old self.new) (IsFull self.old self.new) }
         ensures loan { self.new.table.ghost_name ≡ self.old.table.ghost_name }
     {
         let index = self.count;
-        if index >= self.limit() {
-            return Err(Full);
+        let limit = self.limit();
+        if index >= limit {
+            return Err(Full { limit });
         }
         self.table[index] = entry;
         self.count += 1;

@@ -1,3 +1,5 @@
-// A table has no place left for one more.
+// A table has no place left for one more, and how many entries it can have.
 #[derive(Clone, Copy, Debug, PartialEq, Eq)]
-pub struct Full;
+pub struct Full {
+    pub limit: usize,
+}

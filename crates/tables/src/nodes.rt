@@ -11,7 +11,7 @@ use tree::{Class, NONE, Node};
 impl Nodes<'_> {
     // One more node, with no sibling yet; refused where the table is full.
     pub fn make(&mut self, class: Class, value: u16, first: u16) -> Result<u16, Full>
-        ensures told { MatchResult result (NodeMade class value first self.old self.new) (λ _. IsFull self.old self.new) }
+        ensures told { MatchResult result (NodeMade class value first self.old self.new) (IsFull self.old self.new) }
         ensures loan { self.new.table.ghost_name ≡ self.old.table.ghost_name }
     {
         let number = self.push(Node {
@@ -49,7 +49,7 @@ impl Nodes<'_> {
     // A node over a row of others, of that class; a row of one is its own, and one of none an
     // empty node.
     pub fn complete(&mut self, class: Class, row: &[u16]) -> Result<u16, Full>
-        ensures told { MatchResult result (RowEnded class row.now self.old self.new) (λ _. RowRefused class row.now self.old self.new) }
+        ensures told { MatchResult result (RowEnded class row.now self.old self.new) (RowRefused class row.now self.old self.new) }
         ensures loan { self.new.table.ghost_name ≡ self.old.table.ghost_name }
     {
         match row {

@@ -30,7 +30,7 @@ impl<E: Spotted + Copy, const LIMIT: usize> Filling<'_, E, LIMIT> {
     // The index of the entry that is written as this one; it is added where there is none, and
     // refused where the table is full.
     pub fn number(&mut self, text: &[u8], entry: E) -> Result<usize, Full>
-        ensures told { MatchResult result (Numbered E.Spotted.begins E.Spotted.spans text.now entry self.old self.new) (λ _. Refused E.Spotted.begins E.Spotted.spans text.now entry self.old self.new) }
+        ensures told { MatchResult result (Numbered E.Spotted.begins E.Spotted.spans text.now entry self.old self.new) (Refused E.Spotted.begins E.Spotted.spans text.now entry self.old self.new) }
         ensures loan { self.new.table.ghost_name ≡ self.old.table.ghost_name }
     {
         match self.index_of(text, &entry) {

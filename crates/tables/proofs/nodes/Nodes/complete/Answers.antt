@@ -7,7 +7,7 @@ use Rattle.tables.proofs.nodes.Nodes.complete.Goals as goal
 pub returns-in-empty-clause-told : goal.returns-in-empty-clause-told
 returns-in-empty-clause-told c =
     let none : c.args.row.now ≡ [] = nil_from_length c.args.row.now (search rules) in
-    subst (λ row. MatchResult c.make.result (RowEnded c.args.class row c.args.self.now c.make.new.self) (λ _. RowRefused c.args.class row c.args.self.now c.make.new.self)) (sym none) (ended_none c.args.class c.args.self.now c.make.new.self c.make.result c.make.ensures.told)
+    subst (λ row. MatchResult c.make.result (RowEnded c.args.class row c.args.self.now c.make.new.self) (RowRefused c.args.class row c.args.self.now c.make.new.self)) (sym none) (ended_none c.args.class c.args.self.now c.make.new.self c.make.result c.make.ensures.told)
 
 pub returns-in-len1-up-clause-told : goal.returns-in-len1-up-clause-told
 returns-in-len1-up-clause-told c =
