@@ -3,7 +3,7 @@ use Rattle.std.proofs.Common.{◌≡◌, ℕ, ◌<◌, ◌≤◌, List, [], ◌�
 use Rattle.grammar.proofs.Items.{rest_shorter}
 use Rattle.grammar.proofs.Moves.{fixed_same, fits, moved, fronted, tables_same}
 use Rattle.grammar.specs.Bodies.{closing_token, level_at, MarkFirst, BranchRead, BranchRefused, EndedGoes, EndedRefused, Closed, Unclosed}
-use Rattle.grammar.specs.Forest.{nodes_of, roots_of, place_of, Healthy, over_group, over_branches, BranchEnded, BranchFull, Finished, Unfinished}
+use Rattle.grammar.specs.Forest.{nodes_of, roots_of, place, Healthy, over_group, over_branches, BranchEnded, BranchFull, Finished, Unfinished}
 use Rattle.grammar.specs.Reader.{tokens_of, tables_of, fixed, Sound, Kept, standing_ready}
 use Rattle.grammar.specs.Words.{bracket, rest_of, Advanced}
 use Rattle.grammar.specs.Parts.{Forest}
@@ -21,8 +21,8 @@ use Rattle.notation.proofs.Steps.{bar_on, bar_nodes_full, closing_on, closing_no
 use Rattle.tables.specs.Meant.{name_meant, kind_meant}
 use Rattle.tables.specs.Nodes.{over_row}
 use Rattle.tables.specs.Nodes as tables
-use Rattle.tables.specs.Records.{records}
-use Rattle.grammar.specs.declared.refusal.NodesFull.{NodesFull as FullNodes}
+use Rattle.tables.specs.Filling.{entries}
+use Rattle.tables.specs.declared.full.Full.{Full}
 use Rattle.tree.specs.declared.class.Class.TheVariants as class_is
 use Rattle.tree.specs.declared.node.Node.{Node}
 
@@ -54,39 +54,35 @@ pub closed_row : (b : BracketOf) (ended items : List ℕ) (T : Tables) → end_g
 closed_row b ended items T = ap (end_group (bracket b)) (level_row ended items T) ∙ group_row b T (over_branches ended items T.nodes)
 
 -- a forest that has changed, and a token that is gone
-module _ (r : Reader) (s : Sound r) (forest : Forest) (place : place_of forest ≡ place_of r.forest) where
+module _ (r : Reader) (s : Sound r) (forest : Forest) (same_place : place forest.nodes ≡ place r.forest.nodes) where
   abbrev halfway : Reader
-  halfway = record { words = r.words; names = r.names; kinds = r.kinds; forest = forest }
+  halfway = record { words = r.words; names = r.names; kinds = r.kinds; forest = forest; lenders = r.lenders }
 
-  pub half_same : fixed (record { words = r.words; names = r.names; kinds = r.kinds; forest = forest }) ≡ fixed r
-  half_same = fixed_same r halfway refl refl refl refl refl refl place
+  pub half_same : fixed (record { words = r.words; names = r.names; kinds = r.kinds; forest = forest; lenders = r.lenders }) ≡ fixed r
+  half_same = fixed_same r halfway refl refl refl refl same_place refl
 
   module _ (healthy : Healthy forest) (after : Words) (a : Advanced r.words after) where
     abbrev q : Reader
-    q = record { words = after; names = r.names; kinds = r.kinds; forest = forest }
+    q = record { words = after; names = r.names; kinds = r.kinds; forest = forest; lenders = r.lenders }
 
-    pub grown_same : fixed (record { words = after; names = r.names; kinds = r.kinds; forest = forest }) ≡ fixed r
-    grown_same = fixed_same r q a.text_same a.end_same refl refl refl refl place
+    pub grown_same : fixed (record { words = after; names = r.names; kinds = r.kinds; forest = forest; lenders = r.lenders }) ≡ fixed r
+    grown_same = fixed_same r q a.text_same a.end_same refl refl same_place refl
 
-    pub grown_kept : Kept r (record { words = after; names = r.names; kinds = r.kinds; forest = forest })
+    pub grown_kept : Kept r (record { words = after; names = r.names; kinds = r.kinds; forest = forest; lenders = r.lenders })
     grown_kept = record {
       same = grown_same;
       sound = record {
-        names_text = s.names_text ∙ sym a.text_same;
-        kinds_text = s.kinds_text ∙ sym a.text_same;
-        names_most = s.names_most;
-        kinds_most = s.kinds_most;
         names_clean = s.names_clean;
         kinds_clean = s.kinds_clean;
         healthy = healthy;
       };
     }
 
-    pub grown_tables : (ns : List Node) → nodes_of forest ≡ ns → ◌≡◌ {A = Tables} (record { names = (tables_of r).names; kinds = (tables_of r).kinds; nodes = ns }) (tables_of (record { words = after; names = r.names; kinds = r.kinds; forest = forest }))
+    pub grown_tables : (ns : List Node) → nodes_of forest ≡ ns → ◌≡◌ {A = Tables} (record { names = (tables_of r).names; kinds = (tables_of r).kinds; nodes = ns }) (tables_of (record { words = after; names = r.names; kinds = r.kinds; forest = forest; lenders = r.lenders }))
     grown_tables ns e =
-        tables_same (tables_of r).names (map (name_meant after.text.now) (records r.names)) (tables_of r).kinds (map (kind_meant after.text.now) (records r.kinds)) ns (nodes_of forest)
-        (ap (λ t. map (name_meant t) (records r.names)) (sym a.text_same))
-        (ap (λ t. map (kind_meant t) (records r.kinds)) (sym a.text_same))
+        tables_same (tables_of r).names (map (name_meant after.text.now) (entries r.names)) (tables_of r).kinds (map (kind_meant after.text.now) (entries r.kinds)) ns (nodes_of forest)
+        (ap (λ t. map (name_meant t) (entries r.names)) (sym a.text_same))
+        (ap (λ t. map (kind_meant t) (entries r.kinds)) (sym a.text_same))
         (sym e)
 
 made_same : (T U : Tables) (m n : ℕ) → T ≡ U → m ≡ n → ◌≡◌ {A = Made} (record { tables = T; at = m }) (record { tables = U; at = n })
@@ -105,7 +101,7 @@ module _ (r : Reader) (s : Sound r) (first : MarkFirst r.words bar) (begin : ℕ
   abbrev row : tables.Made
   row = over_row class_is.Chain (drop begin (roots_of r.forest)) (nodes_of r.forest)
 
-  pub branch_full : (forest : Forest) (e : FullNodes) → BranchFull begin r.forest forest e → BranchRefused begin r (record { words = r.words; names = r.names; kinds = r.kinds; forest = forest }) (NodesFull e.limit)
+  pub branch_full : (forest : Forest) (e : Full) → BranchFull begin r.forest forest e → BranchRefused begin r (record { words = r.words; names = r.names; kinds = r.kinds; forest = forest; lenders = r.lenders }) (NodesFull e.limit)
   branch_full forest e h = record {
     same = half_same r s forest h.place;
     told =
@@ -116,7 +112,7 @@ module _ (r : Reader) (s : Sound r) (first : MarkFirst r.words bar) (begin : ℕ
         ∙ ap (λ n. refused (nodes_full n)) (sym h.told);
   }
 
-  pub branch_read : (forest : Forest) (h : BranchEnded begin r.forest forest) (after : Words) (a : Advanced r.words after) → BranchRead begin r (record { words = after; names = r.names; kinds = r.kinds; forest = forest })
+  pub branch_read : (forest : Forest) (h : BranchEnded begin r.forest forest) (after : Words) (a : Advanced r.words after) → BranchRead begin r (record { words = after; names = r.names; kinds = r.kinds; forest = forest; lenders = r.lenders })
   branch_read forest h after a = record {
     kept = grown_kept r s forest h.place h.healthy after a;
     node = row.at;
@@ -127,7 +123,7 @@ module _ (r : Reader) (s : Sound r) (first : MarkFirst r.words bar) (begin : ℕ
         fronted bs rule outer r (bar first.spot) (rest_of (tokens_of r)) (record { ended = ended; items = items }) first.first
         ∙ bar_on (fixed r).limits (rest_of (tokens_of r)) (fixed r).ending bs (record { tables = tables_of r; rule = rule; level = record { ended = ended; items = items }; outer = outer }) first.spot deep (fits r s)
         (omega (arith, h.fits, ap length h.nodes, ap (λ M. length M.tables.nodes) (sequence_row items (tables_of r))))
-        ∙ moved bs rule outer r (record { words = after; names = r.names; kinds = r.kinds; forest = forest }) (end_sequence items (tables_of r)).tables (rest_of (tokens_of r)) (next_branch (record { ended = ended; items = items }) (end_sequence items (tables_of r)).at) (record { ended = ended ++ row.at ∷ []; items = [] }) (grown_same r s forest h.place h.healthy after a)
+        ∙ moved bs rule outer r (record { words = after; names = r.names; kinds = r.kinds; forest = forest; lenders = r.lenders }) (end_sequence items (tables_of r)).tables (rest_of (tokens_of r)) (next_branch (record { ended = ended; items = items }) (end_sequence items (tables_of r)).at) (record { ended = ended ++ row.at ∷ []; items = [] }) (grown_same r s forest h.place h.healthy after a)
         (ap (λ M. M.tables) (sequence_row items (tables_of r)) ∙ grown_tables r s forest h.place h.healthy after a row.nodes h.nodes) (sym a.rest)
         (ap (λ M. record { ended = ended ++ M.at ∷ []; items = [] }) (sequence_row items (tables_of r)));
   }
@@ -140,7 +136,7 @@ module _ (r : Reader) (s : Sound r) (from begin : ℕ) where
   abbrev rest : List Token
   rest = rest_of (tokens_of r)
 
-  full_told : (c : Option BracketOf) (first : MarkFirst r.words (closing_token c)) (forest : Forest) (e : FullNodes) → Unfinished c from begin r.forest forest e
+  full_told : (c : Option BracketOf) (first : MarkFirst r.words (closing_token c)) (forest : Forest) (e : Full) → Unfinished c from begin r.forest forest e
       → (depth : ℕ) → depth ≤ 32 → EndedRefused c depth r (level_at from begin (roots_of r.forest)) (NodesFull e.limit)
   full_told None first forest e h depth d =
       λ rule.
@@ -155,15 +151,15 @@ module _ (r : Reader) (s : Sound r) (from begin : ℕ) where
       (omega (arith, h.full, ap (λ M. length M.tables.nodes) (closed_row b level.ended level.items (tables_of r))))
       ∙ ap (λ n. refused (nodes_full n)) (sym h.told)
 
-  pub closed_full : (c : Option BracketOf) (first : MarkFirst r.words (closing_token c)) (forest : Forest) (e : FullNodes) → Unfinished c from begin r.forest forest e
-      → (depth : ℕ) → depth ≤ 32 → Unclosed c depth (level_at from begin (roots_of r.forest)) r (record { words = r.words; names = r.names; kinds = r.kinds; forest = forest }) (NodesFull e.limit)
+  pub closed_full : (c : Option BracketOf) (first : MarkFirst r.words (closing_token c)) (forest : Forest) (e : Full) → Unfinished c from begin r.forest forest e
+      → (depth : ℕ) → depth ≤ 32 → Unclosed c depth (level_at from begin (roots_of r.forest)) r (record { words = r.words; names = r.names; kinds = r.kinds; forest = forest; lenders = r.lenders }) (NodesFull e.limit)
   closed_full c first forest e h depth d = record { same = half_same r s forest h.place; told = full_told c first forest e h depth d }
 
   closed_goes : (c : Option BracketOf) (first : MarkFirst r.words (closing_token c)) (forest : Forest) (n : ℕ) (h : Finished c from begin r.forest forest n) (after : Words) (a : Advanced r.words after)
-      → (depth : ℕ) → depth ≤ 32 → EndedGoes c depth r (record { words = after; names = r.names; kinds = r.kinds; forest = forest }) (level_at from begin (roots_of r.forest)) n
+      → (depth : ℕ) → depth ≤ 32 → EndedGoes c depth r (record { words = after; names = r.names; kinds = r.kinds; forest = forest; lenders = r.lenders }) (level_at from begin (roots_of r.forest)) n
   closed_goes None first forest n h after a depth d =
       λ rule.
-      let q : Reader = record { words = after; names = r.names; kinds = r.kinds; forest = forest } in
+      let q : Reader = record { words = after; names = r.names; kinds = r.kinds; forest = forest; lenders = r.lenders } in
       let M : tables.Made = over_branches level.ended level.items (nodes_of r.forest) in
       let same = grown_same r s forest h.place h.healthy after a in
       let made : end_level level (tables_of r) ≡ record { tables = tables_of q; at = n } =
@@ -174,7 +170,7 @@ module _ (r : Reader) (s : Sound r) (from begin : ℕ) where
       ∙ ready_moved r q (rule_ended rule (end_level level (tables_of r))) (rule_ended rule (record { tables = tables_of q; at = n })) rest same (ap (rule_ended rule) made) (sym a.rest)
   closed_goes (Some b) first forest n h after a depth d =
       λ bs deep rule around outer.
-      let q : Reader = record { words = after; names = r.names; kinds = r.kinds; forest = forest } in
+      let q : Reader = record { words = after; names = r.names; kinds = r.kinds; forest = forest; lenders = r.lenders } in
       let M : tables.Made = over_group (Some b) (over_branches level.ended level.items (nodes_of r.forest)) in
       let ended : Made = end_group (bracket b) (end_level level (tables_of r)) in
       let row = closed_row b level.ended level.items (tables_of r) in
@@ -185,7 +181,7 @@ module _ (r : Reader) (s : Sound r) (from begin : ℕ) where
       (ap (λ M. M.tables) row ∙ grown_tables r s forest h.place h.healthy after a M.nodes h.nodes) (sym a.rest) (ap (λ M. one_more around M.at) row ∙ ap (one_more around) (sym h.number))
 
   pub closed_read : (c : Option BracketOf) (first : MarkFirst r.words (closing_token c)) (forest : Forest) (n : ℕ) (h : Finished c from begin r.forest forest n) (after : Words) (a : Advanced r.words after)
-      → (depth : ℕ) → depth ≤ 32 → Closed c depth (take from (roots_of r.forest)) (level_at from begin (roots_of r.forest)) r (record { words = after; names = r.names; kinds = r.kinds; forest = forest }) n
+      → (depth : ℕ) → depth ≤ 32 → Closed c depth (take from (roots_of r.forest)) (level_at from begin (roots_of r.forest)) r (record { words = after; names = r.names; kinds = r.kinds; forest = forest; lenders = r.lenders }) n
   closed_read c first forest n h after a depth d = record {
     kept = grown_kept r s forest h.place h.healthy after a;
     roots_left = h.fewer;

@@ -4,7 +4,7 @@ use Rattle.std.proofs.lemmas.List.{length-take-le, take-take, take-append-le, dr
 use Rattle.notation.specs.Tables.{add, link}
 use Rattle.notation.proofs.Grows.{length_link, length_add}
 use Rattle.tables.specs.Nodes.{Made, over_row}
-use Rattle.grammar.specs.declared.refusal.NodesFull.{NodesFull}
+use Rattle.tables.specs.declared.full.Full.{Full}
 use Rattle.tree.specs.declared.class.Class.{Class}
 use Rattle.tree.specs.declared.class.Class.TheVariants as class_is
 use Rattle.tree.specs.declared.node.Node.{Node}
@@ -37,7 +37,7 @@ made_is M ns n nodes at = subst (λ k. record { nodes = ns; at = k } ≡ M) (sym
 abbrev over_one : Class → ℕ → Forest → Made
 over_one k inside f = record { nodes = add k 0 inside (nodes_of f); at = length (nodes_of f) }
 
-pub in_brackets : (k : Class) (b : Bracket) (c : Option Bracket) (inside : ℕ) (before after : Forest) (r : Result ℕ NodesFull)
+pub in_brackets : (k : Class) (b : Bracket) (c : Option Bracket) (inside : ℕ) (before after : Forest) (r : Result ℕ Full)
     → Healthy before → c ≡ Some b → over_inside (Some b) inside before ≡ record { nodes = add k 0 inside (nodes_of before); at = length (nodes_of before) }
     → MatchResult r (MadeOne k 0 inside before after) (MadeNone before after) → MatchResult r (Bracketed c inside before after) (Unbracketed c inside before after)
 in_brackets k b c inside before after (Ok n) well closing is m =
@@ -75,7 +75,7 @@ module _ (closing : Option Bracket) (from begin : ℕ) (before : Forest) where
       let b = group_grows closing branches in
       omega arith
 
-  pub chain_over : (after : Forest) (e : NodesFull) → BranchFull begin before after e → Unfinished closing from begin before after e
+  pub chain_over : (after : Forest) (e : Full) → BranchFull begin before after e → Unfinished closing from begin before after e
   chain_over after e h = record { full = omega (arith, branches_grow, h.full); told = h.told; place = h.place }
 
   module _ (lower : from ≤ begin) (within : begin ≤ length (roots_of before)) (mid : Forest) (ended : BranchEnded begin before mid) where
@@ -94,7 +94,7 @@ module _ (closing : Option Bracket) (from begin : ℕ) (before : Forest) where
     over : over_row class_is.Alternative (drop from (roots_of mid)) (nodes_of mid) ≡ over_branches (drop from (take begin (roots_of before))) (drop begin (roots_of before)) (nodes_of before)
     over = ap (λ r. over_row class_is.Alternative r (nodes_of mid)) row ∙ ap (over_row class_is.Alternative (drop from (take begin (roots_of before)) ++ last.at ∷ [])) ended.nodes
 
-    pub branches_over : (after : Forest) (e : NodesFull) → Unreduced class_is.Alternative from mid after e → Unfinished closing from begin before after e
+    pub branches_over : (after : Forest) (e : Full) → Unreduced class_is.Alternative from mid after e → Unfinished closing from begin before after e
     branches_over after e h =
         let same = ended.place in
         let long = ap (λ p. p.long) same in
@@ -108,7 +108,7 @@ module _ (closing : Option Bracket) (from begin : ℕ) (before : Forest) where
       group : over_inside closing inside inner ≡ grouped closing from begin before
       group = ap (over_group closing) (made_is branches (nodes_of inner) inside (reduced.nodes ∙ ap (λ M. M.nodes) over) (reduced.number ∙ ap (λ M. M.at) over))
 
-      pub group_over : (after : Forest) (e : NodesFull) → Unbracketed closing inside inner after e → Unfinished closing from begin before after e
+      group_over : (after : Forest) (e : Full) → Unbracketed closing inside inner after e → Unfinished closing from begin before after e
       group_over after e h =
           let same = reduced.place ∙ ended.place in
           let long = ap (λ p. p.long) same in
@@ -118,7 +118,7 @@ module _ (closing : Option Bracket) (from begin : ℕ) (before : Forest) where
             place = h.place ∙ same;
           }
 
-      pub finished : (after : Forest) (n : ℕ) → Bracketed closing inside inner after n → Finished closing from begin before after n
+      finished : (after : Forest) (n : ℕ) → Bracketed closing inside inner after n → Finished closing from begin before after n
       finished after n h =
           let same = reduced.place ∙ ended.place in
           let long = ap (λ p. p.long) same in
@@ -132,6 +132,10 @@ module _ (closing : Option Bracket) (from begin : ℕ) (before : Forest) where
             healthy = h.healthy;
             place = h.place ∙ same;
           }
+
+      pub ended_over : (after : Forest) (r : Result ℕ Full) → MatchResult r (Bracketed closing inside inner after) (Unbracketed closing inside inner after) → MatchResult r (Finished closing from begin before after) (Unfinished closing from begin before after)
+      ended_over after (Ok n) h = finished after n h
+      ended_over after (Err e) h = group_over after e h
 
 -- a sequence has ended, and its node waits
 pub branch_ended : (begin : ℕ) (before mid after : Forest) (n : ℕ) → Reduced class_is.Chain begin before mid n → Pushed n mid after → BranchEnded begin before after

@@ -1,7 +1,8 @@
 -- Names and terminals as items of a sequence.
 use Rattle.std.proofs.Common.{◌≡◌, ℕ, suc, ◌+◌, ◌<◌, ◌≤◌, false, not, List, [], ◌∷◌, map, length, sym, refl, ap, ◌∙◌, arith, length-append}
 use Rattle.grammar.proofs.Counted.{name_number, names_are, names_fit, names_clean, names_over, kind_number, kinds_are, kinds_fit, kinds_clean, kinds_over}
-use Rattle.grammar.proofs.Moves.{fixed_same, kept_spots, fits, moved, fronted, tables_same}
+use Rattle.grammar.proofs.Moves.{fixed_same, fits, moved, fronted, tables_same}
+use Rattle.grammar.proofs.Rooting.{kept_place}
 use Rattle.grammar.specs.Forest.{nodes_of, MadeOne, MadeNone}
 use Rattle.grammar.specs.Reader.{text_of, tokens_of, tables_of, fixed, zero_name, zero_spelling, Sound, NamedFirst, SpellingFirst, TerminalFirst, NodeRead, ItemRefused}
 use Rattle.grammar.specs.Words.{word_spot, piece_token, rest_of, Advanced}
@@ -17,11 +18,12 @@ use Rattle.notation.specs.Tables.{with_name, with_kind, find_name, find_kind, ad
 use Rattle.notation.specs.Tokens.{Spot, spelling, Token, name, terminal, is_spelling}
 use Rattle.notation.proofs.Steps.{name_on, name_names_full, name_nodes_full, terminal_on, terminal_misspelt, terminal_kinds_full, terminal_nodes_full}
 use Rattle.tables.specs.Meant.{name_meant, kind_meant}
-use Rattle.tables.specs.Records.{records, Numbered, Refused}
+use Rattle.tables.specs.Filling.{entries}
+use Rattle.tables.specs.Numbering.{Numbered, Refused}
 use Rattle.tables.specs.Spots.{cut}
-use Rattle.grammar.specs.declared.refusal.NodesFull.{NodesFull as FullNodes}
+use Rattle.tables.specs.declared.full.Full.{Full}
 use Rattle.tables.specs.declared.name.Name.{Name}
-use Rattle.tables.specs.declared.spots.Spots.{Spots}
+use Rattle.tables.specs.declared.filling.Filling.{Filling}
 use Rattle.tree.specs.declared.class.Class.TheVariants as class_is
 
 pub rest_shorter : (ts : List Token) (t : Token) → ts ≡ t ∷ rest_of ts → length (rest_of ts) < length ts
@@ -44,24 +46,24 @@ module _ (r : Reader) (s : Sound r) (x : Word) where
     name_first : tokens_of r ≡ name (word_spot (text_of r) x) ∷ rest_of (tokens_of r)
     name_first = first.first ∙ ap (λ p. piece_token p (word_spot (text_of r) x) ∷ rest_of (tokens_of r)) first.is
 
-    pub name_over : (names : Spots Name) → Refused (λ e. e.place) (λ e. e.length) (record { place = x.place; length = x.length; root = 1024 }) r.names names
-        → (depth : ℕ) → depth ≤ 32 → ItemRefused depth r (record { words = r.words; names = names; kinds = r.kinds; forest = r.forest }) (NamesFull x.place)
-    name_over names m depth d = record {
-      same = ap (λ n. fixed (record { words = r.words; names = n; kinds = r.kinds; forest = r.forest })) m.same;
+    pub name_over : (names : Filling Name 64) (e : Full) → Refused (λ e. e.place) (λ e. e.length) (text_of r) (record { place = x.place; length = x.length; root = 1024 }) r.names names e
+        → (depth : ℕ) → depth ≤ 32 → ItemRefused depth r (record { words = r.words; names = names; kinds = r.kinds; forest = r.forest; lenders = r.lenders }) (NamesFull x.place)
+    name_over names e m depth d = record {
+      same = ap (λ n. fixed (record { words = r.words; names = n; kinds = r.kinds; forest = r.forest; lenders = r.lenders })) m.same;
       told =
           λ bs deep rule l outer.
           fronted bs rule outer r (name spot) (rest_of (tokens_of r)) l name_first
-          ∙ name_names_full (fixed r).limits (rest_of (tokens_of r)) (fixed r).ending bs (record { tables = tables_of r; rule = rule; level = l; outer = outer }) spot (omega arith) (names_over (text_of r) r.names names name_entry refl s.names_text m);
+          ∙ name_names_full (fixed r).limits (rest_of (tokens_of r)) (fixed r).ending bs (record { tables = tables_of r; rule = rule; level = l; outer = outer }) spot (omega arith) (names_over (text_of r) r.names names name_entry refl e m);
     }
 
-    module _ (names : Spots Name) (i : ℕ) (m : Numbered (λ e. e.place) (λ e. e.length) (record { place = x.place; length = x.length; root = 1024 }) r.names names i) (loan : names.table.ghost_name ≡ r.names.table.ghost_name) where
+    module _ (names : Filling Name 64) (i : ℕ) (m : Numbered (λ e. e.place) (λ e. e.length) (text_of r) (record { place = x.place; length = x.length; root = 1024 }) r.names names i) (loan : names.table.ghost_name ≡ r.names.table.ghost_name) where
       few_names : length (with_name (word_spot (text_of r) x) (tables_of r).names) ≤ (fixed r).limits.names
-      few_names = names_fit (text_of r) r.names names name_entry refl s.names_text i m
+      few_names = names_fit (text_of r) r.names names name_entry refl i m
 
-      pub name_nodes_over : (forest : Forest) (e : FullNodes) → MadeNone r.forest forest e
-          → (depth : ℕ) → depth ≤ 32 → ItemRefused depth r (record { words = r.words; names = names; kinds = r.kinds; forest = forest }) (NodesFull e.limit)
+      pub name_nodes_over : (forest : Forest) (e : Full) → MadeNone r.forest forest e
+          → (depth : ℕ) → depth ≤ 32 → ItemRefused depth r (record { words = r.words; names = names; kinds = r.kinds; forest = forest; lenders = r.lenders }) (NodesFull e.limit)
       name_nodes_over forest e h depth d = record {
-        same = fixed_same r (record { words = r.words; names = names; kinds = r.kinds; forest = forest }) refl refl m.kept.limit (kept_spots r.names names m.kept loan) refl refl h.place;
+        same = fixed_same r (record { words = r.words; names = names; kinds = r.kinds; forest = forest; lenders = r.lenders }) refl refl (kept_place r.names names m.kept loan) refl h.place refl;
         told =
             λ bs deep rule l outer.
             fronted bs rule outer r (name spot) (rest_of (tokens_of r)) l name_first
@@ -71,28 +73,24 @@ module _ (r : Reader) (s : Sound r) (x : Word) where
 
       module _ (forest : Forest) (n : ℕ) (h : MadeOne class_is.Name i 1024 r.forest forest n) (after : Words) (a : Advanced r.words after) where
         abbrev q : Reader
-        q = record { words = after; names = names; kinds = r.kinds; forest = forest }
+        q = record { words = after; names = names; kinds = r.kinds; forest = forest; lenders = r.lenders }
 
-        same : fixed (record { words = after; names = names; kinds = r.kinds; forest = forest }) ≡ fixed r
-        same = fixed_same r q a.text_same a.end_same m.kept.limit (kept_spots r.names names m.kept loan) refl refl h.place
+        same : fixed (record { words = after; names = names; kinds = r.kinds; forest = forest; lenders = r.lenders }) ≡ fixed r
+        same = fixed_same r q a.text_same a.end_same (kept_place r.names names m.kept loan) refl h.place refl
 
-        tables : (make_name (word_spot (text_of r) x) (tables_of r)).tables ≡ tables_of (record { words = after; names = names; kinds = r.kinds; forest = forest })
+        tables : (make_name (word_spot (text_of r) x) (tables_of r)).tables ≡ tables_of (record { words = after; names = names; kinds = r.kinds; forest = forest; lenders = r.lenders })
         tables =
-            tables_same (with_name spot (tables_of r).names) (map (name_meant after.text.now) (records names)) (tables_of r).kinds (map (kind_meant after.text.now) (records r.kinds)) (add class_is.Name (find_name spot.bytes (tables_of r).names) 1024 (nodes_of r.forest)) (nodes_of forest)
-            (sym (names_are (text_of r) r.names names name_entry refl s.names_text i m) ∙ ap (λ t. map (name_meant t) (records names)) (sym a.text_same))
-            (ap (λ t. map (kind_meant t) (records r.kinds)) (sym a.text_same))
-            (ap (λ k. add class_is.Name k 1024 (nodes_of r.forest)) (sym (name_number (text_of r) r.names names name_entry refl s.names_text i m)) ∙ sym h.nodes)
+            tables_same (with_name spot (tables_of r).names) (map (name_meant after.text.now) (entries names)) (tables_of r).kinds (map (kind_meant after.text.now) (entries r.kinds)) (add class_is.Name (find_name spot.bytes (tables_of r).names) 1024 (nodes_of r.forest)) (nodes_of forest)
+            (sym (names_are (text_of r) r.names names name_entry refl i m) ∙ ap (λ t. map (name_meant t) (entries names)) (sym a.text_same))
+            (ap (λ t. map (kind_meant t) (entries r.kinds)) (sym a.text_same))
+            (ap (λ k. add class_is.Name k 1024 (nodes_of r.forest)) (sym (name_number (text_of r) r.names names name_entry refl i m)) ∙ sym h.nodes)
 
-        pub name_read : (depth : ℕ) → depth ≤ 32 → NodeRead depth r (record { words = after; names = names; kinds = r.kinds; forest = forest }) n
+        pub name_read : (depth : ℕ) → depth ≤ 32 → NodeRead depth r (record { words = after; names = names; kinds = r.kinds; forest = forest; lenders = r.lenders }) n
         name_read depth d = record {
           kept = record {
             same = same;
             sound = record {
-              names_text = m.kept.text ∙ s.names_text ∙ sym a.text_same;
-              kinds_text = s.kinds_text ∙ sym a.text_same;
-              names_most = m.kept.limit ∙ s.names_most;
-              kinds_most = s.kinds_most;
-              names_clean = names_clean (text_of r) r.names names name_entry refl s.names_text i m zero_name s.names_clean;
+              names_clean = names_clean (text_of r) r.names names name_entry refl i m zero_name s.names_clean;
               kinds_clean = s.kinds_clean;
               healthy = h.healthy;
             };
@@ -109,24 +107,24 @@ module _ (r : Reader) (s : Sound r) (x : Word) where
         }
 
   module _ (first : TerminalFirst r.words x) where
-    pub token_over : (kinds : Spots Spelling) → Refused (λ e. e.place) (λ e. e.length) (record { place = x.place; length = x.length }) r.kinds kinds
-        → (depth : ℕ) → depth ≤ 32 → ItemRefused depth r (record { words = r.words; names = r.names; kinds = kinds; forest = r.forest }) (KindsFull x.place)
-    token_over kinds m depth d = record {
-      same = ap (λ n. fixed (record { words = r.words; names = r.names; kinds = n; forest = r.forest })) m.same;
+    pub token_over : (kinds : Filling Spelling 120) (e : Full) → Refused (λ e. e.place) (λ e. e.length) (text_of r) (record { place = x.place; length = x.length }) r.kinds kinds e
+        → (depth : ℕ) → depth ≤ 32 → ItemRefused depth r (record { words = r.words; names = r.names; kinds = kinds; forest = r.forest; lenders = r.lenders }) (KindsFull x.place)
+    token_over kinds e m depth d = record {
+      same = ap (λ n. fixed (record { words = r.words; names = r.names; kinds = n; forest = r.forest; lenders = r.lenders })) m.same;
       told =
           λ bs deep rule l outer.
           fronted bs rule outer r (terminal first.sort spot) (rest_of (tokens_of r)) l first.first
-          ∙ terminal_kinds_full (fixed r).limits (rest_of (tokens_of r)) (fixed r).ending bs (record { tables = tables_of r; rule = rule; level = l; outer = outer }) first.sort spot (omega arith) (fits r s) first.spelt (kinds_over (text_of r) r.kinds kinds kind_entry s.kinds_text m);
+          ∙ terminal_kinds_full (fixed r).limits (rest_of (tokens_of r)) (fixed r).ending bs (record { tables = tables_of r; rule = rule; level = l; outer = outer }) first.sort spot (omega arith) (fits r s) first.spelt (kinds_over (text_of r) r.kinds kinds kind_entry e m);
     }
 
-    module _ (kinds : Spots Spelling) (i : ℕ) (m : Numbered (λ e. e.place) (λ e. e.length) (record { place = x.place; length = x.length }) r.kinds kinds i) (loan : kinds.table.ghost_name ≡ r.kinds.table.ghost_name) where
+    module _ (kinds : Filling Spelling 120) (i : ℕ) (m : Numbered (λ e. e.place) (λ e. e.length) (text_of r) (record { place = x.place; length = x.length }) r.kinds kinds i) (loan : kinds.table.ghost_name ≡ r.kinds.table.ghost_name) where
       few_kinds : length (with_kind (word_spot (text_of r) x) (tables_of r).kinds) ≤ (fixed r).limits.kinds
-      few_kinds = kinds_fit (text_of r) r.kinds kinds kind_entry s.kinds_text i m
+      few_kinds = kinds_fit (text_of r) r.kinds kinds kind_entry i m
 
-      pub token_nodes_over : (forest : Forest) (e : FullNodes) → MadeNone r.forest forest e
-          → (depth : ℕ) → depth ≤ 32 → ItemRefused depth r (record { words = r.words; names = r.names; kinds = kinds; forest = forest }) (NodesFull e.limit)
+      pub token_nodes_over : (forest : Forest) (e : Full) → MadeNone r.forest forest e
+          → (depth : ℕ) → depth ≤ 32 → ItemRefused depth r (record { words = r.words; names = r.names; kinds = kinds; forest = forest; lenders = r.lenders }) (NodesFull e.limit)
       token_nodes_over forest e h depth d = record {
-        same = fixed_same r (record { words = r.words; names = r.names; kinds = kinds; forest = forest }) refl refl refl refl m.kept.limit (kept_spots r.kinds kinds m.kept loan) h.place;
+        same = fixed_same r (record { words = r.words; names = r.names; kinds = kinds; forest = forest; lenders = r.lenders }) refl refl refl (kept_place r.kinds kinds m.kept loan) h.place refl;
         told =
             λ bs deep rule l outer.
             fronted bs rule outer r (terminal first.sort spot) (rest_of (tokens_of r)) l first.first
@@ -136,29 +134,25 @@ module _ (r : Reader) (s : Sound r) (x : Word) where
 
       module _ (forest : Forest) (n : ℕ) (h : MadeOne class_is.Token (i + 1) 1024 r.forest forest n) (after : Words) (a : Advanced r.words after) where
         abbrev q_token : Reader
-        q_token = record { words = after; names = r.names; kinds = kinds; forest = forest }
+        q_token = record { words = after; names = r.names; kinds = kinds; forest = forest; lenders = r.lenders }
 
-        token_same : fixed (record { words = after; names = r.names; kinds = kinds; forest = forest }) ≡ fixed r
-        token_same = fixed_same r q_token a.text_same a.end_same refl refl m.kept.limit (kept_spots r.kinds kinds m.kept loan) h.place
+        token_same : fixed (record { words = after; names = r.names; kinds = kinds; forest = forest; lenders = r.lenders }) ≡ fixed r
+        token_same = fixed_same r q_token a.text_same a.end_same refl (kept_place r.kinds kinds m.kept loan) h.place refl
 
-        token_tables : (make_token (word_spot (text_of r) x) (tables_of r)).tables ≡ tables_of (record { words = after; names = r.names; kinds = kinds; forest = forest })
+        token_tables : (make_token (word_spot (text_of r) x) (tables_of r)).tables ≡ tables_of (record { words = after; names = r.names; kinds = kinds; forest = forest; lenders = r.lenders })
         token_tables =
-            tables_same (tables_of r).names (map (name_meant after.text.now) (records r.names)) (with_kind spot (tables_of r).kinds) (map (kind_meant after.text.now) (records kinds)) (add class_is.Token (suc (find_kind spot.bytes (tables_of r).kinds)) 1024 (nodes_of r.forest)) (nodes_of forest)
-            (ap (λ t. map (name_meant t) (records r.names)) (sym a.text_same))
-            (sym (kinds_are (text_of r) r.kinds kinds kind_entry s.kinds_text i m) ∙ ap (λ t. map (kind_meant t) (records kinds)) (sym a.text_same))
-            (ap (λ k. add class_is.Token k 1024 (nodes_of r.forest)) (sym (one_add_right i ∙ ap suc (kind_number (text_of r) r.kinds kinds kind_entry s.kinds_text i m))) ∙ sym h.nodes)
+            tables_same (tables_of r).names (map (name_meant after.text.now) (entries r.names)) (with_kind spot (tables_of r).kinds) (map (kind_meant after.text.now) (entries kinds)) (add class_is.Token (suc (find_kind spot.bytes (tables_of r).kinds)) 1024 (nodes_of r.forest)) (nodes_of forest)
+            (ap (λ t. map (name_meant t) (entries r.names)) (sym a.text_same))
+            (sym (kinds_are (text_of r) r.kinds kinds kind_entry i m) ∙ ap (λ t. map (kind_meant t) (entries kinds)) (sym a.text_same))
+            (ap (λ k. add class_is.Token k 1024 (nodes_of r.forest)) (sym (one_add_right i ∙ ap suc (kind_number (text_of r) r.kinds kinds kind_entry i m))) ∙ sym h.nodes)
 
-        pub token_read : (depth : ℕ) → depth ≤ 32 → NodeRead depth r (record { words = after; names = r.names; kinds = kinds; forest = forest }) n
+        pub token_read : (depth : ℕ) → depth ≤ 32 → NodeRead depth r (record { words = after; names = r.names; kinds = kinds; forest = forest; lenders = r.lenders }) n
         token_read depth d = record {
           kept = record {
             same = token_same;
             sound = record {
-              names_text = s.names_text ∙ sym a.text_same;
-              kinds_text = m.kept.text ∙ s.kinds_text ∙ sym a.text_same;
-              names_most = s.names_most;
-              kinds_most = m.kept.limit ∙ s.kinds_most;
               names_clean = s.names_clean;
-              kinds_clean = kinds_clean (text_of r) r.kinds kinds kind_entry s.kinds_text i m zero_spelling s.kinds_clean;
+              kinds_clean = kinds_clean (text_of r) r.kinds kinds kind_entry i m zero_spelling s.kinds_clean;
               healthy = h.healthy;
             };
           };

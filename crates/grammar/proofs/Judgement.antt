@@ -1,5 +1,7 @@
 -- From what a reading comes to, to what judging says.
-use Rattle.std.proofs.Common.{◌≡◌, ℕ, ◌≤◌, min, List, length, replicate, sym, ap, ◌∙◌, subst, ⊎_elim}
+use Rattle.std.proofs.Common.{◌≡◌, ℕ, ◌≤◌, true, false, min, List, length, replicate, Ok, Err, Result, sym, ap, ◌∙◌, subst, ⊎_elim, MatchResult}
+use Rattle.std.proofs.lemmas.Bool.{true≢false, false≢true}
+use Rattle.std.specs.Result.{is_err}
 use Rattle.grammar.specs.Filled.{outcome, Filled, WhyNot, Unfilled}
 use Rattle.grammar.specs.Judged.{Lent, lent, limits_of, held, AsLong, Accepted, RefusedFor, RefusedRight, Rejected}
 use Rattle.grammar.specs.Reader.{zero_name, zero_spelling}
@@ -24,7 +26,7 @@ limits_same before after l =
     ∙ ap (λ n. record { names = min 64 (length before.names); kinds = min 120 n; nodes = min 1024 (length after.nodes) }) l.kinds
     ∙ ap (λ n. record { names = min 64 (length before.names); kinds = min 120 (length before.kinds); nodes = min 1024 n }) l.nodes
 
-pub accepted : (text : List ℕ) (before after : Lent) (c : Counts) → Filled text before after c → Accepted text before after c
+accepted : (text : List ℕ) (before after : Lent) (c : Counts) → Filled text before after c → Accepted text before after c
 accepted text before after c f = record {
   grammar = record {
     short = f.short;
@@ -56,8 +58,13 @@ why_right text L e h = ⊎_elim (λ m. subst (RefusedRight text L) (sym m.1) m.2
 lent_same : (A a : List Name) (B b : List Spelling) (C c : List Node) → A ≡ a → B ≡ b → C ≡ c → lent A B C ≡ lent a b c
 lent_same A a B b C c p q r = ap (λ x. lent x B C) p ∙ ap (λ x. lent a x C) q ∙ ap (lent a b) r
 
--- tables that are wiped after a refusal
-pub rejected : (text : List ℕ) (before after : Lent) (e : Refusal) (names : List Name) (kinds : List Spelling) (nodes : List Node)
+-- what was filled is accepted
+pub kept_filled : (text : List ℕ) (before after : Lent) (r : Result Counts Refusal) → is_err r ≡ false → MatchResult r (Filled text before after) (Unfilled text before after) → MatchResult r (Accepted text before after) (Rejected text before after)
+kept_filled text before after (Ok c) is f = accepted text before after c f
+kept_filled text before after (Err e) is u = absurd (true≢false is)
+
+-- and tables are wiped after a refusal
+rejected : (text : List ℕ) (before after : Lent) (e : Refusal) (names : List Name) (kinds : List Spelling) (nodes : List Node)
     → names ≡ replicate (length after.names) zero_name → kinds ≡ replicate (length after.kinds) zero_spelling → nodes ≡ replicate (length after.nodes) zero_node
     → Unfilled text before after e → Rejected text before (lent names kinds nodes) e
 rejected text before after e names kinds nodes n k d u = record {
@@ -66,3 +73,9 @@ rejected text before after e names kinds nodes n k d u = record {
       lent_same names (replicate (length before.names) zero_name) kinds (replicate (length before.kinds) zero_spelling) nodes (replicate (length before.nodes) zero_node)
       (n ∙ ap (λ m. replicate m zero_name) u.long.names) (k ∙ ap (λ m. replicate m zero_spelling) u.long.kinds) (d ∙ ap (λ m. replicate m zero_node) u.long.nodes);
 }
+
+pub wiped_unfilled : (text : List ℕ) (before after : Lent) (r : Result Counts Refusal) (names : List Name) (kinds : List Spelling) (nodes : List Node) → is_err r ≡ true
+    → names ≡ replicate (length after.names) zero_name → kinds ≡ replicate (length after.kinds) zero_spelling → nodes ≡ replicate (length after.nodes) zero_node
+    → MatchResult r (Filled text before after) (Unfilled text before after) → MatchResult r (Accepted text before (lent names kinds nodes)) (Rejected text before (lent names kinds nodes))
+wiped_unfilled text before after (Ok c) names kinds nodes is n k d f = absurd (false≢true is)
+wiped_unfilled text before after (Err e) names kinds nodes is n k d u = rejected text before after e names kinds nodes n k d u

@@ -12,4 +12,3 @@ mod Ruling
 mod Sequences
 mod Sorted
 pub mod Spelled
-mod Stacked

@@ -1,11 +1,12 @@
 -- A reader before and after a token.
-use Rattle.std.proofs.Common.{◌≡◌, ℕ, min, List, ◌∷◌, length, sym, ap, ◌∙◌, arith, length-take}
+use Rattle.std.proofs.Common.{◌≡◌, ℕ, min, List, ◌∷◌, sym, ap, ◌∙◌, subst, arith, length-take}
 use lib.ListN.{length-map}
-use Rattle.grammar.proofs.Rooting.{same_place}
-use Rattle.grammar.specs.Forest.{Place, place_of}
-use Rattle.grammar.specs.Reader.{text_of, tokens_of, tables_of, Fixed, spots_place, fixed, Sound, standing}
+use Rattle.grammar.specs.Forest.{Place, place}
+use Rattle.grammar.specs.Reader.{text_of, tokens_of, tables_of, Fixed, fixed, Sound, standing}
 use Rattle.grammar.specs.Words as words
-use Rattle.grammar.specs.Parts.{Reader}
+use Rattle.grammar.specs.Words.{Advanced}
+use Rattle.grammar.specs.declared.words.Words.{Words}
+use Rattle.grammar.specs.Parts.{Lenders, Reader}
 use Rattle.notation.specs.Numbering.{Level}
 use Rattle.notation.specs.Reading.{Levels, Outcome, run}
 use Rattle.notation.specs.Standing.{inside}
@@ -13,41 +14,35 @@ use Rattle.notation.specs.Tables.{Entry, Tables}
 use Rattle.notation.specs.Tokens.{Bracket, Spot, Token, Ending}
 use Rattle.notation.proofs.Steps.{Fits}
 use Rattle.tables.specs.Meant.{name_meant, kind_meant}
-use Rattle.tables.specs.Records.{records, RestKept}
-use Rattle.tables.specs.declared.spots.Spots.{Spots}
+use Rattle.tables.specs.Filling.{entries}
 use Rattle.tree.specs.declared.node.Node.{Node}
 
 -- what is fixed, by its parts
-abbrev fixed_by : List ℕ → Ending → ℕ → Place → ℕ → Place → Place → Fixed
-fixed_by text e names_limit names kinds_limit kinds nodes = record {
+abbrev fixed_by : List ℕ → Ending → Place → Place → Place → Lenders → Fixed
+fixed_by text e names kinds nodes lenders = record {
   text = text;
   ending = e;
-  limits = record { names = min names_limit names.long; kinds = min kinds_limit kinds.long; nodes = min 1024 nodes.long };
+  limits = record { names = min 64 names.long; kinds = min 120 kinds.long; nodes = min 1024 nodes.long };
   name_place = names;
   kind_place = kinds;
   node_place = nodes;
+  lenders = lenders;
 }
 
-pub fixed_same : (r q : Reader) → text_of q ≡ text_of r → words.ending q.words ≡ words.ending r.words → q.names.limit ≡ r.names.limit → spots_place q.names ≡ spots_place r.names
-    → q.kinds.limit ≡ r.kinds.limit → spots_place q.kinds ≡ spots_place r.kinds → place_of q.forest ≡ place_of r.forest → fixed q ≡ fixed r
-fixed_same r q text e names_limit names kinds_limit kinds nodes =
-    ap (λ x. fixed_by x (words.ending q.words) q.names.limit (spots_place q.names) q.kinds.limit (spots_place q.kinds) (place_of q.forest)) text
-    ∙ ap (λ x. fixed_by (text_of r) x q.names.limit (spots_place q.names) q.kinds.limit (spots_place q.kinds) (place_of q.forest)) e
-    ∙ ap (λ x. fixed_by (text_of r) (words.ending r.words) x (spots_place q.names) q.kinds.limit (spots_place q.kinds) (place_of q.forest)) names_limit
-    ∙ ap (λ x. fixed_by (text_of r) (words.ending r.words) r.names.limit x q.kinds.limit (spots_place q.kinds) (place_of q.forest)) names
-    ∙ ap (λ x. fixed_by (text_of r) (words.ending r.words) r.names.limit (spots_place r.names) x (spots_place q.kinds) (place_of q.forest)) kinds_limit
-    ∙ ap (λ x. fixed_by (text_of r) (words.ending r.words) r.names.limit (spots_place r.names) r.kinds.limit x (place_of q.forest)) kinds
-    ∙ ap (λ x. fixed_by (text_of r) (words.ending r.words) r.names.limit (spots_place r.names) r.kinds.limit (spots_place r.kinds) x) nodes
-
--- a table of records that is as it was but for its records
-pub kept_spots : {E : Type 0} (t u : Spots E) → RestKept t u → u.table.ghost_name ≡ t.table.ghost_name → spots_place u ≡ spots_place t
-kept_spots t u k loan = same_place (length u.table.now) (length t.table.now) u.table.ghost_name t.table.ghost_name k.long loan
+pub fixed_same : (r q : Reader) → text_of q ≡ text_of r → words.ending q.words ≡ words.ending r.words → place q.names ≡ place r.names → place q.kinds ≡ place r.kinds → place q.forest.nodes ≡ place r.forest.nodes → q.lenders ≡ r.lenders → fixed q ≡ fixed r
+fixed_same r q text e names kinds nodes lenders =
+    ap (λ x. fixed_by x (words.ending q.words) (place q.names) (place q.kinds) (place q.forest.nodes) q.lenders) text
+    ∙ ap (λ x. fixed_by (text_of r) x (place q.names) (place q.kinds) (place q.forest.nodes) q.lenders) e
+    ∙ ap (λ x. fixed_by (text_of r) (words.ending r.words) x (place q.kinds) (place q.forest.nodes) q.lenders) names
+    ∙ ap (λ x. fixed_by (text_of r) (words.ending r.words) (place r.names) x (place q.forest.nodes) q.lenders) kinds
+    ∙ ap (λ x. fixed_by (text_of r) (words.ending r.words) (place r.names) (place r.kinds) x q.lenders) nodes
+    ∙ ap (λ x. fixed_by (text_of r) (words.ending r.words) (place r.names) (place r.kinds) (place r.forest.nodes) x) lenders
 
 -- the tables of a reader are within their limits
 pub fits : (r : Reader) → Sound r → Fits (fixed r).limits (tables_of r)
 fits r s = record {
-  names = omega (arith, length-map (records r.names) (name_meant (text_of r)), length-take (min r.names.count r.names.limit) r.names.table.now);
-  kinds = omega (arith, length-map (records r.kinds) (kind_meant (text_of r)), length-take (min r.kinds.count r.kinds.limit) r.kinds.table.now);
+  names = omega (arith, length-map (entries r.names) (name_meant (text_of r)), length-take r.names.count r.names.table.now, r.names.within, r.names.few);
+  kinds = omega (arith, length-map (entries r.kinds) (kind_meant (text_of r)), length-take r.kinds.count r.kinds.table.now, r.kinds.within, r.kinds.few);
   nodes = s.healthy.fit;
 }
 
@@ -67,3 +62,10 @@ module _ (bs : List Bracket) (rule : ℕ) (outer : Levels bs) where
 pub tables_same : (A a : List Entry) (B b : List Spot) (C c : List Node) → A ≡ a → B ≡ b → C ≡ c → ◌≡◌ {A = Tables} (record { names = A; kinds = B; nodes = C }) (record { names = a; kinds = b; nodes = c })
 tables_same A a B b C c p q r =
     ap (λ x. record { names = x; kinds = B; nodes = C }) p ∙ ap (λ x. record { names = a; kinds = x; nodes = C }) q ∙ ap (λ x. record { names = a; kinds = b; nodes = x }) r
+
+-- the same reader over the words after a token
+abbrev pub words_gone : Words → Reader → Reader
+words_gone after r = record { words = after; names = r.names; kinds = r.kinds; forest = r.forest; lenders = r.lenders }
+
+pub advanced : (before same after : Words) → before ≡ same → Advanced before after → Advanced same after
+advanced before same after e a = subst (λ w. Advanced w after) e a

@@ -1,15 +1,16 @@
 -- Trees that grow from their roots.
-use Rattle.std.proofs.Common.{◌≡◌, ℕ, zero, suc, ◌+◌, ◌-◌, ◌<◌, ◌≤◌, List, [], ◌∷◌, ◌++◌, length, take, drop, replicate, sym, ap, ◌∙◌, subst, arith, length-append, length-drop, length-take, min}
+use Rattle.std.proofs.Common.{◌≡◌, ℕ, zero, suc, ◌+◌, ◌-◌, ◌<◌, ◌≤◌, List, [], ◌∷◌, ◌++◌, length, take, drop, replicate, sym, ap, ◌∙◌, subst, arith, length-append, length-drop, length-take, Ok, Err, Result, MatchResult}
 use Rattle.std.proofs.lemmas.List.{drop-drop, drop-replicate}
 use Rattle.notation.specs.Statements.{Each}
 use Rattle.notation.specs.Tables.{link}
 use Rattle.notation.proofs.Grows.{length_link, length_add}
-use Rattle.tables.specs.Nodes.{node_list, zero_node, node_limit, RestKept, NodeMade, IsNodesFull, RowEnded, RowRefused}
-use Rattle.grammar.specs.declared.refusal.NodesFull.{NodesFull}
-use Rattle.tables.specs.declared.nodes.Nodes.{Nodes}
+use Rattle.tables.specs.Filling.{entries, room, RestKept, IsFull}
+use Rattle.tables.specs.Nodes.{Nodes, zero_node, NodeMade, RowEnded, RowRefused}
+use Rattle.tables.specs.declared.filling.Filling.{Filling}
+use Rattle.tables.specs.declared.full.Full.{Full}
 use Rattle.tree.specs.declared.class.Class.{Class}
 use Rattle.tree.specs.declared.class.Class.TheVariants.{Empty}
-use Rattle.grammar.specs.Forest.{nodes_of, roots_of, places_of, Place, place_of, Healthy, MadeOne, MadeNone, Pushed, Reduced, Unreduced}
+use Rattle.grammar.specs.Forest.{nodes_of, roots_of, Place, place, Clean, Healthy, MadeOne, MadeNone, Pushed, Reduced, Unreduced}
 use Rattle.grammar.specs.Parts.{Forest}
 
 pub each_take : {X : Type 0} (P : X → Type 0) (n : ℕ) (xs : List X) → Each P xs → Each P (take n xs)
@@ -29,23 +30,20 @@ each_more P (y ∷ ys) x h p = (h.0, each_more P ys x h.1 p)
 abbrev Small : List ℕ → Type 0
 Small ns = Each (λ n. n < 1024) ns
 
--- unused places are 0
-abbrev Clean : Nodes → Type 0
-Clean t = drop t.count t.table.now ≡ replicate (length t.table.now - t.count) zero_node
-
-still_clean : (before after : Nodes) → RestKept before after → Clean before → Clean after
-still_clean before after kept clean =
+-- unused places stay as they were
+pub still_clean : {E : Type 0} {L : ℕ} (before after : Filling E L) (blank : E) → RestKept before after → Clean before blank → Clean after blank
+still_clean before after blank kept clean =
     let k = after.count - before.count in
     let left = length before.table.now - before.count in
     let over : after.count ≡ before.count + k = omega (arith, kept.grows) in
     let fewer : left - k ≡ length after.table.now - after.count = omega (arith, kept.grows, kept.long) in
-    kept.rest ∙ ap (λ n. drop n before.table.now) over ∙ sym (drop-drop k before.count before.table.now) ∙ ap (drop k) clean ∙ drop-replicate k left zero_node ∙ ap (λ n. replicate n zero_node) fewer
+    kept.rest ∙ ap (λ n. drop n before.table.now) over ∙ sym (drop-drop k before.count before.table.now) ∙ ap (drop k) clean ∙ drop-replicate k left blank ∙ ap (λ n. replicate n blank) fewer
 
 pub same_place : (m n a b : ℕ) → m ≡ n → a ≡ b → ◌≡◌ {A = Place} (record { long = m; whose = a }) (record { long = n; whose = b })
 same_place m n a b e f = ap (λ x. record { long = x; whose = a }) e ∙ ap (λ x. record { long = n; whose = x }) f
 
-kept_place : (before after : Forest) → RestKept before.nodes after.nodes → after.nodes.table.ghost_name ≡ before.nodes.table.ghost_name → place_of after ≡ place_of before
-kept_place before after k loan = same_place (places_of after) (places_of before) after.nodes.table.ghost_name before.nodes.table.ghost_name k.long loan
+pub kept_place : {E : Type 0} {L : ℕ} (before after : Filling E L) → RestKept before after → after.table.ghost_name ≡ before.table.ghost_name → place after ≡ place before
+kept_place before after k loan = same_place (length after.table.now) (length before.table.now) after.table.ghost_name before.table.ghost_name k.long loan
 
 pub made_one : (c : Class) (v f : ℕ) (before after : Forest) (n : ℕ) → Healthy before → roots_of after ≡ roots_of before → NodeMade c v f before.nodes after.nodes n → after.nodes.table.ghost_name ≡ before.nodes.table.ghost_name → MadeOne c v f before after n
 made_one c v f before after n well same m loan =
@@ -57,36 +55,40 @@ made_one c v f before after n well same m loan =
       nodes = m.nodes;
       same_roots = same;
       room = omega arith;
-      healthy = record { fit = omega arith; few = omega (arith, ap length same, well.few); small = subst Small (sym same) well.small; clean = still_clean before.nodes after.nodes m.kept well.clean };
-      place = kept_place before after m.kept loan;
+      healthy = record { fit = omega arith; few = omega (arith, ap length same, well.few); small = subst Small (sym same) well.small; clean = still_clean before.nodes after.nodes zero_node m.kept well.clean };
+      place = kept_place before.nodes after.nodes m.kept loan;
     }
 
-pub made_none : (before after : Forest) (e : NodesFull) → IsNodesFull before.nodes after.nodes → e.limit ≡ node_limit after.nodes → MadeNone before after e
-made_none before after e m is = record { full = m.full; told = is ∙ ap node_limit m.same; place = ap (λ t. record { long = length t.table.now; whose = t.table.ghost_name }) m.same }
+pub made_none : (before after : Forest) (e : Full) → IsFull before.nodes after.nodes e → MadeNone before after e
+made_none before after e m = record { full = m.full; told = m.told; place = ap place m.same }
+
+pub made_told : (c : Class) (v f : ℕ) (before after : Forest) (r : Result ℕ Full) → Healthy before → roots_of after ≡ roots_of before → MatchResult r (NodeMade c v f before.nodes after.nodes) (IsFull before.nodes after.nodes) → after.nodes.table.ghost_name ≡ before.nodes.table.ghost_name → MatchResult r (MadeOne c v f before after) (MadeNone before after)
+made_told c v f before after (Ok n) well same m loan = made_one c v f before after n well same m loan
+made_told c v f before after (Err e) well same m loan = made_none before after e m
 
 pub pushed_root : (n : ℕ) (before after : Forest) → Healthy before → length (roots_of before) < length (nodes_of before) → n < 1024 → after.nodes ≡ before.nodes → roots_of after ≡ roots_of before ++ n ∷ [] → Pushed n before after
 pushed_root n before after well own small same more =
     let long = ap length more ∙ length-append (roots_of before) (n ∷ []) in
-    let nodes : nodes_of after ≡ nodes_of before = ap node_list same in
-    let place : place_of after ≡ place_of before = ap (λ t. record { long = length t.table.now; whose = t.table.ghost_name }) same in
+    let nodes : nodes_of after ≡ nodes_of before = ap (λ t. entries {L = 1024} t) same in
+    let there : place after.nodes ≡ place before.nodes = ap place same in
     record {
       nodes = nodes;
       more = more;
-      healthy = record { fit = omega (arith, ap length nodes, ap (λ p. p.long) place, well.fit); few = omega (arith, ap length nodes); small = subst Small (sym more) (each_more (λ k. k < 1024) (roots_of before) n well.small small); clean = subst Clean (sym same) well.clean };
-      place = place;
+      healthy = record { fit = omega (arith, ap length nodes, ap (λ p. p.long) there, well.fit); few = omega (arith, ap length nodes); small = subst Small (sym more) (each_more (λ k. k < 1024) (roots_of before) n well.small small); clean = subst (λ t. Clean t zero_node) (sym same) well.clean };
+      place = there;
     }
 
 -- there is room for a node over the row, which is more than those that wait before it
 record Fitting (from : ℕ) (before after : Nodes) (n : ℕ) : Type 0 where
-  pub fits : length (node_list after) ≤ node_limit before
-  pub own : from < length (node_list after)
+  pub fits : length (entries after) ≤ room before
+  pub own : from < length (entries after)
   pub small : n < 1024
 
-fitting : (c : Class) (from : ℕ) (row : List ℕ) (before after : Nodes) (n : ℕ) → from + length row ≤ length (node_list before) → length (node_list before) ≤ node_limit before → Small row → RowEnded c row before after n → Fitting from before after n
+fitting : (c : Class) (from : ℕ) (row : List ℕ) (before after : Nodes) (n : ℕ) → from + length row ≤ length (entries before) → length (entries before) ≤ room before → Small row → RowEnded c row before after n → Fitting from before after n
 fitting c from [] before after n few fit small m =
     let fits = m.fits (λ e. absurd (omega arith)) in
     let number = m.number in
-    let grown = ap length m.nodes ∙ length_add Empty 0 1024 (node_list before) in
+    let grown = ap length m.nodes ∙ length_add Empty 0 1024 (entries before) in
     record { fits = fits; own = omega arith; small = omega arith }
 fitting c from (x ∷ []) before after n few fit small m =
     let same = ap length m.nodes in
@@ -96,8 +98,8 @@ fitting c from (x ∷ []) before after n few fit small m =
 fitting c from (x ∷ y ∷ rest) before after n few fit small m =
     let fits = m.fits (λ e. absurd (omega arith)) in
     let number = m.number in
-    let linked = length_link (x ∷ y ∷ rest) (node_list before) in
-    let grown = ap length m.nodes ∙ length_add c 0 x (link (x ∷ y ∷ rest) (node_list before)) in
+    let linked = length_link (x ∷ y ∷ rest) (entries before) in
+    let grown = ap length m.nodes ∙ length_add c 0 x (link (x ∷ y ∷ rest) (entries before)) in
     record { fits = fits; own = omega arith; small = omega arith }
 
 -- the row as it is lent
@@ -119,11 +121,11 @@ reduced c from row before after n well within is fewer ended loan =
       fits = fits;
       own = omega arith;
       small = f.small;
-      healthy = record { fit = omega arith; few = omega arith; small = subst Small (sym fewer) (each_take (λ k. k < 1024) from (roots_of before) well.small); clean = still_clean before.nodes after.nodes m.kept well.clean };
-      place = kept_place before after m.kept loan;
+      healthy = record { fit = omega arith; few = omega arith; small = subst Small (sym fewer) (each_take (λ k. k < 1024) from (roots_of before) well.small); clean = still_clean before.nodes after.nodes zero_node m.kept well.clean };
+      place = kept_place before.nodes after.nodes m.kept loan;
     }
 
-pub unreduced : (c : Class) (from : ℕ) (row : List ℕ) (before after : Forest) (e : NodesFull) → row ≡ drop from (roots_of before) → RowRefused c row before.nodes after.nodes → e.limit ≡ node_limit after.nodes → after.nodes.table.ghost_name ≡ before.nodes.table.ghost_name → Unreduced c from before after e
-unreduced c from row before after e is refused told loan =
-    let m : RowRefused c (drop from (roots_of before)) before.nodes after.nodes = subst (λ r. RowRefused c r before.nodes after.nodes) is refused in
-    record { full = m.full; told = told ∙ ap (min 1024) m.kept.long; place = kept_place before after m.kept loan }
+pub unreduced : (c : Class) (from : ℕ) (row : List ℕ) (before after : Forest) (e : Full) → row ≡ drop from (roots_of before) → RowRefused c row before.nodes after.nodes e → after.nodes.table.ghost_name ≡ before.nodes.table.ghost_name → Unreduced c from before after e
+unreduced c from row before after e is refused loan =
+    let m : RowRefused c (drop from (roots_of before)) before.nodes after.nodes e = subst (λ r. RowRefused c r before.nodes after.nodes e) is refused in
+    record { full = m.full; told = m.told; place = kept_place before.nodes after.nodes m.kept loan }

@@ -1,11 +1,12 @@
 -- Rules, one after another.
-use Rattle.std.proofs.Common.{◌≡◌, ℕ, zero, suc, ◌<◌, ◌≤◌, true, false, List, [], ◌∷◌, map, length, None, sym, refl, ap, ◌∙◌, subst, ⊎_elim, arith, length-set}
+use Rattle.std.proofs.Common.{◌≡◌, ℕ, zero, suc, ◌<◌, ◌≤◌, true, false, List, [], ◌∷◌, map, length, None, sym, refl, ap, ◌∙◌, subst, ⊎_elim, arith, Ok, Err, Result, MatchResult}
 use lib.ListN.{length-map}
 use Rattle.grammar.proofs.Closing.{grown_same, grown_kept, grown_tables}
-use Rattle.grammar.proofs.Counted.{clean_more, name_number, names_are, names_fit, names_clean, names_over}
+use Rattle.grammar.proofs.Counted.{name_number, names_are, names_fit, names_clean, names_over}
 use Rattle.grammar.proofs.Cycle.{kept_on, refused_so}
 use Rattle.grammar.proofs.Items.{rest_shorter}
-use Rattle.grammar.proofs.Moves.{fixed_same, kept_spots, fits, tables_same}
+use Rattle.grammar.proofs.Moves.{fixed_same, fits, tables_same}
+use Rattle.grammar.proofs.Rooting.{kept_place, still_clean}
 use Rattle.grammar.specs.Bodies.{Closed}
 use Rattle.grammar.specs.Forest.{nodes_of, roots_of}
 use Rattle.grammar.specs.Reader.{text_of, tokens_of, tables_of, fixed, zero_name, Sound, Kept}
@@ -29,9 +30,11 @@ use Rattle.notation.proofs.Steps.{head_on, head_names_full, head_second_rule, ar
 use Rattle.tables.proofs.Meant.{name_ruled, name_rooted, unruled_meant, none_unruled}
 use Rattle.tables.specs.Meant.{name_meant, kind_meant}
 use Rattle.tables.specs.Names.{ruled, rooted}
-use Rattle.tables.specs.Records.{records, RestKept, with_new, place_among, Numbered, Refused}
+use Rattle.tables.specs.Filling.{entries, RestKept}
+use Rattle.tables.specs.Numbering.{with_new, Numbered, Refused}
 use Rattle.tables.specs.declared.name.Name.{Name}
-use Rattle.tables.specs.declared.spots.Spots.{Spots}
+use Rattle.tables.specs.declared.filling.Filling.{Filling}
+use Rattle.tables.specs.declared.full.Full.{Full}
 
 module _ (L : Limits) (ts : List Token) (e : Ending) (s : Spot) where
   ready_told : (T : Tables) (k : Piece) → (k ≡ piece_is.Name → ⊥) → run L ready T (piece_token k s ∷ ts) e ≡ refused (misplaced s.place)
@@ -75,9 +78,9 @@ module _ (r : Reader) (x : Word) (first : WordTold r.words x) where
   arrow_misplaced ne = record { same = refl; told = λ rule. arrow_front r rule (piece_token x.piece spot) rest first ∙ heading_told (fixed r).limits rest (fixed r).ending spot (record { tables = tables_of r; rule = rule }) x.piece ne }
 
   -- an arrow
-  pub arrow_read : Sound r → x.piece ≡ piece_is.Arrow → (after : Words) (a : Advanced r.words after) → ArrowRead r (record { words = after; names = r.names; kinds = r.kinds; forest = r.forest })
+  pub arrow_read : Sound r → x.piece ≡ piece_is.Arrow → (after : Words) (a : Advanced r.words after) → ArrowRead r (record { words = after; names = r.names; kinds = r.kinds; forest = r.forest; lenders = r.lenders })
   arrow_read s e after a =
-      let q : Reader = record { words = after; names = r.names; kinds = r.kinds; forest = r.forest } in
+      let q : Reader = record { words = after; names = r.names; kinds = r.kinds; forest = r.forest; lenders = r.lenders } in
       let front : tokens_of r ≡ arrow spot ∷ rest = first ∙ ap (λ k. piece_token k spot ∷ rest) e in
       let same : fixed q ≡ fixed r = grown_same r s r.forest refl s.healthy after a in
       let tables : tables_of r ≡ tables_of q = grown_tables r s r.forest refl s.healthy after a (nodes_of r.forest) refl in
@@ -101,45 +104,40 @@ module _ (r : Reader) (x : Word) (first : WordTold r.words x) where
     name_front : tokens_of r ≡ name (word_spot (text_of r) x) ∷ rest_of (tokens_of r)
     name_front = first ∙ ap (λ k. piece_token k spot ∷ rest) e
 
-    pub head_over : (names : Spots Name) → Refused (λ e. e.place) (λ e. e.length) (record { place = x.place; length = x.length; root = 1024 }) r.names names
-        → HeadRefused r (record { words = r.words; names = names; kinds = r.kinds; forest = r.forest }) (refusal_is.NamesFull x.place)
-    head_over names m = record {
-      same = ap (λ n. fixed (record { words = r.words; names = n; kinds = r.kinds; forest = r.forest })) m.same;
-      told = ready_front r (name spot) rest name_front ∙ head_names_full (fixed r).limits rest (fixed r).ending (tables_of r) spot (names_over (text_of r) r.names names entry refl s.names_text m);
+    pub head_over : (names : Filling Name 64) (e : Full) → Refused (λ e. e.place) (λ e. e.length) (text_of r) (record { place = x.place; length = x.length; root = 1024 }) r.names names e
+        → HeadRefused r (record { words = r.words; names = names; kinds = r.kinds; forest = r.forest; lenders = r.lenders }) (refusal_is.NamesFull x.place)
+    head_over names e m = record {
+      same = ap (λ n. fixed (record { words = r.words; names = n; kinds = r.kinds; forest = r.forest; lenders = r.lenders })) m.same;
+      told = ready_front r (name spot) rest name_front ∙ head_names_full (fixed r).limits rest (fixed r).ending (tables_of r) spot (names_over (text_of r) r.names names entry refl e m);
     }
 
-    module _ (names : Spots Name) (i : ℕ) (m : Numbered (λ e. e.place) (λ e. e.length) (record { place = x.place; length = x.length; root = 1024 }) r.names names i) (loan : names.table.ghost_name ≡ r.names.table.ghost_name) where
+    module _ (names : Filling Name 64) (i : ℕ) (m : Numbered (λ e. e.place) (λ e. e.length) (text_of r) (record { place = x.place; length = x.length; root = 1024 }) r.names names i) (loan : names.table.ghost_name ≡ r.names.table.ghost_name) where
       few : length (with_name (word_spot (text_of r) x) (tables_of r).names) ≤ (fixed r).limits.names
-      few = names_fit (text_of r) r.names names entry refl s.names_text i m
+      few = names_fit (text_of r) r.names names entry refl i m
 
-      has_it : ruled i (records names) ≡ has_rule (word_spot (text_of r) x).bytes (tables_of r).names
+      has_it : ruled i (entries names) ≡ has_rule (word_spot (text_of r) x).bytes (tables_of r).names
       has_it =
-          let here : i ≡ place_among (λ e. e.place) (λ e. e.length) entry (text_of r) (records r.names) = m.is ∙ ap (λ w. place_among (λ e. e.place) (λ e. e.length) entry w (records r.names)) s.names_text in
-          ap (ruled i) m.list ∙ ap (λ j. ruled j (with_new j entry (records r.names))) here ∙ name_ruled (text_of r) entry (records r.names) refl
+          ap (ruled i) m.list ∙ ap (λ j. ruled j (with_new j entry (entries r.names))) m.is ∙ name_ruled (text_of r) entry (entries r.names) refl
 
-      pub head_again : ruled i (records names) ≡ true → HeadRefused r (record { words = r.words; names = names; kinds = r.kinds; forest = r.forest }) (refusal_is.SecondRule x.place)
+      pub head_again : ruled i (entries names) ≡ true → HeadRefused r (record { words = r.words; names = names; kinds = r.kinds; forest = r.forest; lenders = r.lenders }) (refusal_is.SecondRule x.place)
       head_again h = record {
-        same = fixed_same r (record { words = r.words; names = names; kinds = r.kinds; forest = r.forest }) refl refl m.kept.limit (kept_spots r.names names m.kept loan) refl refl refl;
+        same = fixed_same r (record { words = r.words; names = names; kinds = r.kinds; forest = r.forest; lenders = r.lenders }) refl refl (kept_place r.names names m.kept loan) refl refl refl;
         told = ready_front r (name spot) rest name_front ∙ head_second_rule (fixed r).limits rest (fixed r).ending (tables_of r) spot (fits r s) few (sym has_it ∙ h);
       }
 
-      pub head_read : ruled i (records names) ≡ false → (after : Words) (a : Advanced r.words after) → HeadRead r (record { words = after; names = names; kinds = r.kinds; forest = r.forest }) i
+      pub head_read : ruled i (entries names) ≡ false → (after : Words) (a : Advanced r.words after) → HeadRead r (record { words = after; names = names; kinds = r.kinds; forest = r.forest; lenders = r.lenders }) i
       head_read h after a =
-          let q : Reader = record { words = after; names = names; kinds = r.kinds; forest = r.forest } in
-          let same : fixed q ≡ fixed r = fixed_same r q a.text_same a.end_same m.kept.limit (kept_spots r.names names m.kept loan) refl refl refl in
+          let q : Reader = record { words = after; names = names; kinds = r.kinds; forest = r.forest; lenders = r.lenders } in
+          let same : fixed q ≡ fixed r = fixed_same r q a.text_same a.end_same (kept_place r.names names m.kept loan) refl refl refl in
           let tables : name_known spot (tables_of r) ≡ tables_of q =
-          tables_same (with_name spot (tables_of r).names) (map (name_meant after.text.now) (records names)) (tables_of r).kinds (map (kind_meant after.text.now) (records r.kinds)) (nodes_of r.forest) (nodes_of r.forest)
-          (sym (names_are (text_of r) r.names names entry refl s.names_text i m) ∙ ap (λ t. map (name_meant t) (records names)) (sym a.text_same))
-          (ap (λ t. map (kind_meant t) (records r.kinds)) (sym a.text_same)) refl in
+          tables_same (with_name spot (tables_of r).names) (map (name_meant after.text.now) (entries names)) (tables_of r).kinds (map (kind_meant after.text.now) (entries r.kinds)) (nodes_of r.forest) (nodes_of r.forest)
+          (sym (names_are (text_of r) r.names names entry refl i m) ∙ ap (λ t. map (name_meant t) (entries names)) (sym a.text_same))
+          (ap (λ t. map (kind_meant t) (entries r.kinds)) (sym a.text_same)) refl in
           record {
             kept = record {
               same = same;
               sound = record {
-                names_text = m.kept.text ∙ s.names_text ∙ sym a.text_same;
-                kinds_text = s.kinds_text ∙ sym a.text_same;
-                names_most = m.kept.limit ∙ s.names_most;
-                kinds_most = s.kinds_most;
-                names_clean = names_clean (text_of r) r.names names entry refl s.names_text i m zero_name s.names_clean;
+                names_clean = names_clean (text_of r) r.names names entry refl i m zero_name s.names_clean;
                 kinds_clean = s.kinds_clean;
                 healthy = s.healthy;
               };
@@ -150,38 +148,31 @@ module _ (r : Reader) (x : Word) (first : WordTold r.words x) where
                 ∙ head_on (fixed r).limits rest (fixed r).ending (tables_of r) spot (fits r s) few (sym has_it ∙ h)
                 ∙ ap (λ f. run f.limits heading (record { tables = name_known spot (tables_of r); rule = find_name spot.bytes (tables_of r).names }) rest f.ending) (sym same)
                 ∙ ap (λ T. run (fixed q).limits heading (record { tables = T; rule = find_name spot.bytes (tables_of r).names }) rest (fixed q).ending) tables
-                ∙ ap (λ k. run (fixed q).limits heading (record { tables = tables_of q; rule = k }) rest (fixed q).ending) (sym (name_number (text_of r) r.names names entry refl s.names_text i m))
+                ∙ ap (λ k. run (fixed q).limits heading (record { tables = tables_of q; rule = k }) rest (fixed q).ending) (sym (name_number (text_of r) r.names names entry refl i m))
                 ∙ ap (λ ts. run (fixed q).limits heading (record { tables = tables_of q; rule = i }) ts (fixed q).ending) (sym a.rest);
           }
 
 -- a rule with its root
-module _ (m : Reader) (s : Sound m) (i n : ℕ) (small : n < 1024) (names : Spots Name) (list : records names ≡ rooted i n (records m.names)) (kept : RestKept m.names names) (loan : names.table.ghost_name ≡ m.names.table.ghost_name) where
+module _ (m : Reader) (s : Sound m) (i n : ℕ) (small : n < 1024) (names : Filling Name 64) (list : entries names ≡ rooted i n (entries m.names)) (kept : RestKept m.names names) (loan : names.table.ghost_name ≡ m.names.table.ghost_name) where
   abbrev rooted_reader : Reader
-  rooted_reader = record { words = m.words; names = names; kinds = m.kinds; forest = m.forest }
+  rooted_reader = record { words = m.words; names = names; kinds = m.kinds; forest = m.forest; lenders = m.lenders }
 
-  as_many : length (records names) ≡ length (records m.names)
-  as_many = ap length list ∙ length-set (records m.names) i _
-
-  rooted_tables : rule_ended i (record { tables = tables_of m; at = n }) ≡ tables_of (record { words = m.words; names = names; kinds = m.kinds; forest = m.forest })
+  rooted_tables : rule_ended i (record { tables = tables_of m; at = n }) ≡ tables_of (record { words = m.words; names = names; kinds = m.kinds; forest = m.forest; lenders = m.lenders })
   rooted_tables =
       ap (λ ns. record { names = ns; kinds = (tables_of m).kinds; nodes = (tables_of m).nodes })
-      (sym (name_rooted (text_of m) (records m.names) i n (λ e. omega arith)) ∙ ap (map (name_meant (text_of m))) (sym list))
+      (sym (name_rooted (text_of m) (entries m.names) i n (λ e. omega arith)) ∙ ap (map (name_meant (text_of m))) (sym list))
 
-  rooted_kept : Kept m (record { words = m.words; names = names; kinds = m.kinds; forest = m.forest })
+  rooted_kept : Kept m (record { words = m.words; names = names; kinds = m.kinds; forest = m.forest; lenders = m.lenders })
   rooted_kept = record {
-    same = fixed_same m rooted_reader refl refl kept.limit (kept_spots m.names names kept loan) refl refl refl;
+    same = fixed_same m rooted_reader refl refl (kept_place m.names names kept loan) refl refl refl;
     sound = record {
-      names_text = kept.text ∙ s.names_text;
-      kinds_text = s.kinds_text;
-      names_most = kept.limit ∙ s.names_most;
-      kinds_most = s.kinds_most;
-      names_clean = clean_more m.names names zero_name kept (omega (arith, as_many)) s.names_clean;
+      names_clean = still_clean m.names names zero_name kept s.names_clean;
       kinds_clean = s.kinds_clean;
       healthy = s.healthy;
     };
   }
 
-  pub rule_rooted : (r a b : Reader) → HeadRead r a i → ArrowRead a b → Closed None 0 (roots_of b.forest) no_level b m n → RuleRead r (record { words = m.words; names = names; kinds = m.kinds; forest = m.forest })
+  pub rule_rooted : (r a b : Reader) → HeadRead r a i → ArrowRead a b → Closed None 0 (roots_of b.forest) no_level b m n → RuleRead r (record { words = m.words; names = names; kinds = m.kinds; forest = m.forest; lenders = m.lenders })
   rule_rooted r a b head mid closed =
       let same = rooted_kept.same in
       record {
@@ -206,19 +197,19 @@ module _ (r : Reader) (p : ℕ) (none : tokens_of r ≡ []) (ended : words.endin
   some_name zero h = absurd (h refl)
   some_name (suc n) h = omega arith
 
-  pub ended_well : NamesRuled (records r.names) → at_rule r ≡ read (tables_of r)
+  pub ended_well : NamesRuled (entries r.names) → at_rule r ≡ read (tables_of r)
   ended_well h =
       at_end_is
-      ∙ end_read (fixed r).limits (tables_of r) p (omega (arith, some_name (length (records r.names)) h.some_name, length-map (records r.names) (name_meant (text_of r)))) (none_unruled (text_of r) (records r.names) h.all_ruled)
+      ∙ end_read (fixed r).limits (tables_of r) p (omega (arith, some_name (length (entries r.names)) h.some_name, length-map (entries r.names) (name_meant (text_of r)))) (none_unruled (text_of r) (entries r.names) h.all_ruled)
 
-  lacking : (e : Refusal) → NamesLack p (records r.names) e → RefusedAs e (at_rule r)
+  lacking : (e : Refusal) → NamesLack p (entries r.names) e → RefusedAs e (at_rule r)
   lacking e h =
       ⊎_elim
-      (λ m. subst (λ x. RefusedAs x (at_rule r)) (sym m.1) (at_end_is ∙ end_empty (fixed r).limits (tables_of r) p (empty_map (records r.names) m.0)))
-      (λ m. subst (λ x. RefusedAs x (at_rule r)) (sym m.2) (at_end_is ∙ end_no_rule (fixed r).limits (tables_of r) p m.0 (unruled_meant (text_of r) (records r.names) m.0 m.1)))
+      (λ m. subst (λ x. RefusedAs x (at_rule r)) (sym m.1) (at_end_is ∙ end_empty (fixed r).limits (tables_of r) p (empty_map (entries r.names) m.0)))
+      (λ m. subst (λ x. RefusedAs x (at_rule r)) (sym m.2) (at_end_is ∙ end_no_rule (fixed r).limits (tables_of r) p m.0 (unruled_meant (text_of r) (entries r.names) m.0 m.1)))
       h
 
-  pub ended_ill : (e : Refusal) → NamesLack p (records r.names) e → HeadRefused r r e
+  pub ended_ill : (e : Refusal) → NamesLack p (entries r.names) e → HeadRefused r r e
   ended_ill e h = record { same = refl; told = lacking e h }
 
 -- some rules are read
@@ -226,8 +217,13 @@ pub record RulesOn (before after : Reader) : Type 0 where
   pub kept : Kept before after
   pub goes : at_rule before ≡ at_rule after
 
-pub all_read : (r m : Reader) → RulesOn r m → at_rule m ≡ read (tables_of m) → AllRead r m
+all_read : (r m : Reader) → RulesOn r m → at_rule m ≡ read (tables_of m) → AllRead r m
 all_read r m on h = record { kept = on.kept; outcome = on.goes ∙ h }
 
-pub rules_refused : (r m n : Reader) (e : Refusal) → RulesOn r m → HeadRefused m n e → HeadRefused r n e
+rules_refused : (r m n : Reader) (e : Refusal) → RulesOn r m → HeadRefused m n e → HeadRefused r n e
 rules_refused r m n e on h = record { same = h.same ∙ on.kept.same; told = refused_so e (at_rule r) (at_rule m) on.goes h.told }
+
+-- the end of the text as it is told
+pub end_told : (r m : Reader) (p : ℕ) → RulesOn r m → tokens_of m ≡ [] → words.ending m.words ≡ end p → (x : Result Unit Refusal) → MatchResult x (λ _. NamesRuled (entries m.names)) (NamesLack p (entries m.names)) → MatchResult x (λ _. AllRead r m) (HeadRefused r m)
+end_told r m p on none ended (Ok u) h = all_read r m on (ended_well m p none ended h)
+end_told r m p on none ended (Err e) h = rules_refused r m m e on (ended_ill m p none ended e h)

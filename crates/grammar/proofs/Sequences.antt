@@ -33,19 +33,15 @@ no_item_yet depth r s = record {
 }
 
 -- one more item, which waits now
-pub item_more : (depth : ℕ) (r m n : Reader) (forest : Forest) (k : ℕ) → SequenceOn depth r m → NodeRead depth m n k → Pushed k n.forest forest → SequenceOn depth r (record { words = n.words; names = n.names; kinds = n.kinds; forest = forest })
+pub item_more : (depth : ℕ) (r m n : Reader) (forest : Forest) (k : ℕ) → SequenceOn depth r m → NodeRead depth m n k → Pushed k n.forest forest → SequenceOn depth r (record { words = n.words; names = n.names; kinds = n.kinds; forest = forest; lenders = n.lenders })
 item_more depth r m n forest k q h p =
-    let now : Reader = record { words = n.words; names = n.names; kinds = n.kinds; forest = forest } in
-    let same : fixed now ≡ fixed n = fixed_same n now refl refl refl refl refl refl p.place in
+    let now : Reader = record { words = n.words; names = n.names; kinds = n.kinds; forest = forest; lenders = n.lenders } in
+    let same : fixed now ≡ fixed n = fixed_same n now refl refl refl refl p.place refl in
     let tables : tables_of n ≡ tables_of now = ap (λ ns. record { names = (tables_of n).names; kinds = (tables_of n).kinds; nodes = ns }) (sym p.nodes) in
     record {
       kept = record {
         same = same ∙ h.kept.same ∙ q.kept.same;
         sound = record {
-          names_text = h.kept.sound.names_text;
-          kinds_text = h.kept.sound.kinds_text;
-          names_most = h.kept.sound.names_most;
-          kinds_most = h.kept.sound.kinds_most;
           names_clean = h.kept.sound.names_clean;
           kinds_clean = h.kept.sound.kinds_clean;
           healthy = p.healthy;
@@ -91,19 +87,19 @@ module _ (depth : ℕ) (r : Reader) (x : Word) (first : WordTold r.words x) wher
 
     module _ (s : Sound r) (room : depth < 32) (after : Words) (a : Advanced r.words after) where
       abbrev within : Reader
-      within = record { words = after; names = r.names; kinds = r.kinds; forest = r.forest }
+      within = record { words = after; names = r.names; kinds = r.kinds; forest = r.forest; lenders = r.lenders }
 
-      pub within_shorter : length (tokens_of (record { words = after; names = r.names; kinds = r.kinds; forest = r.forest })) < length (tokens_of r)
+      pub within_shorter : length (tokens_of (record { words = after; names = r.names; kinds = r.kinds; forest = r.forest; lenders = r.lenders })) < length (tokens_of r)
       within_shorter = omega (arith, ap length a.rest, rest_shorter (tokens_of r) (opening (bracket b) spot) (first_is (piece_is.Opening b) e))
 
       -- past the opening bracket
-      to_within : (bs : List Bracket) → length bs ≡ depth → (rule : ℕ) (l : Level) (outer : Levels bs) → standing r bs rule l outer ≡ standing (record { words = after; names = r.names; kinds = r.kinds; forest = r.forest }) (bracket b ∷ bs) rule no_level (l, outer)
+      to_within : (bs : List Bracket) → length bs ≡ depth → (rule : ℕ) (l : Level) (outer : Levels bs) → standing r bs rule l outer ≡ standing (record { words = after; names = r.names; kinds = r.kinds; forest = r.forest; lenders = r.lenders }) (bracket b ∷ bs) rule no_level (l, outer)
       to_within bs deep rule l outer =
           fronted bs rule outer r (opening (bracket b) spot) rest l (first_is (piece_is.Opening b) e)
           ∙ opening_on (fixed r).limits rest (fixed r).ending bs (record { tables = tables_of r; rule = rule; level = l; outer = outer }) (bracket b) spot (omega arith) (fits r s)
           ∙ moved (bracket b ∷ bs) rule (l, outer) r within (tables_of r) rest no_level no_level (grown_same r s r.forest refl s.healthy after a) (grown_tables r s r.forest refl s.healthy after a (nodes_of r.forest) refl) (sym a.rest) refl
 
-      pub group_read : (n : Reader) (k : ℕ) → Closed (Some b) (depth + 1) (roots_of r.forest) no_level (record { words = after; names = r.names; kinds = r.kinds; forest = r.forest }) n k → NodeRead depth r n k
+      pub group_read : (n : Reader) (k : ℕ) → Closed (Some b) (depth + 1) (roots_of r.forest) no_level (record { words = after; names = r.names; kinds = r.kinds; forest = r.forest; lenders = r.lenders }) n k → NodeRead depth r n k
       group_read n k h = record {
         kept = kept_on r within n (grown_kept r s r.forest refl s.healthy after a) h.kept;
         same_roots = h.roots_left;
@@ -113,7 +109,7 @@ module _ (depth : ℕ) (r : Reader) (x : Word) (first : WordTold r.words x) wher
         goes = λ bs deep rule l outer. to_within bs deep rule l outer ∙ h.goes bs (omega arith) rule l outer;
       }
 
-      pub group_unread : (n : Reader) (x : Refusal) → Unclosed (Some b) (depth + 1) no_level (record { words = after; names = r.names; kinds = r.kinds; forest = r.forest }) n x → ItemRefused depth r n x
+      pub group_unread : (n : Reader) (x : Refusal) → Unclosed (Some b) (depth + 1) no_level (record { words = after; names = r.names; kinds = r.kinds; forest = r.forest; lenders = r.lenders }) n x → ItemRefused depth r n x
       group_unread n x h = record {
         same = h.same ∙ grown_same r s r.forest refl s.healthy after a;
         told = λ bs deep rule l outer. refused_so x (standing r bs rule l outer) (standing within (bracket b ∷ bs) rule no_level (l, outer)) (to_within bs deep rule l outer) (h.told bs (omega arith) rule l outer);

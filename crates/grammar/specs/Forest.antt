@@ -1,48 +1,50 @@
 -- The trees of a rule that is being read.
 use Rattle.std.specs.Prelude.{◌≡◌, ℕ, ◌-◌, ◌<◌, ◌≤◌, List, [], ◌∷◌, ◌++◌, length, take, drop, replicate, Some, None, Option}
-use Rattle.grammar.specs.Waiting.{roots}
 use Rattle.grammar.specs.Parts.{Forest}
 use Rattle.grammar.specs.declared.piece.Bracket.{Bracket}
 use Rattle.grammar.specs.declared.piece.Bracket.TheVariants as bracket_is
 use Rattle.notation.specs.Statements.{Each}
 use Rattle.notation.specs.Tables.{add}
-use Rattle.tables.specs.Nodes.{node_list, zero_node, node_limit, Made, over_row}
-use Rattle.grammar.specs.declared.refusal.NodesFull.{NodesFull}
+use Rattle.tables.specs.Filling.{entries, room}
+use Rattle.tables.specs.Nodes.{zero_node, Made, over_row}
+use Rattle.tables.specs.declared.filling.Filling.{Filling}
+use Rattle.tables.specs.declared.full.Full.{Full}
 use Rattle.tree.specs.declared.class.Class.{Class}
 use Rattle.tree.specs.declared.class.Class.TheVariants as class_is
 use Rattle.tree.specs.declared.node.Node.{Node}
 
 abbrev pub nodes_of : Forest → List Node
-nodes_of f = node_list f.nodes
+nodes_of f = entries f.nodes
 
 abbrev pub roots_of : Forest → List ℕ
-roots_of f = roots f.waiting
+roots_of f = f.roots
 
 -- how many nodes there can be
 abbrev pub limit_of : Forest → ℕ
-limit_of f = node_limit f.nodes
-
-abbrev pub places_of : Forest → ℕ
-places_of f = length f.nodes.table.now
+limit_of f = room f.nodes
 
 -- which table it is, and how long: whose by the ghost name of its loan
 pub record Place : Type 0 where
   pub long : ℕ
   pub whose : ℕ
 
-abbrev pub place_of : Forest → Place
-place_of f = record { long = places_of f; whose = f.nodes.table.ghost_name }
+abbrev pub place : {E : Type 0} {L : ℕ} → Filling E L → Place
+place t = record { long = length t.table.now; whose = t.table.ghost_name }
+
+-- every place past the entries has this value
+abbrev pub Clean : {E : Type 0} {L : ℕ} → Filling E L → E → Type 0
+Clean t zero = drop t.count t.table.now ≡ replicate (length t.table.now - t.count) zero
 
 -- what holds between two calls: each root that waits is a node of its own, and unused places are 0
 pub record Healthy (f : Forest) : Type 0 where
   pub fit : length (nodes_of f) ≤ limit_of f
   pub few : length (roots_of f) ≤ length (nodes_of f)
   pub small : Each (λ n. n < 1024) (roots_of f)
-  pub clean : drop f.nodes.count f.nodes.table.now ≡ replicate (places_of f - f.nodes.count) zero_node
+  pub clean : Clean f.nodes zero_node
 
 -- the table is the same, and as long as it was
 abbrev pub SamePlace : Forest → Forest → Type 0
-SamePlace before after = place_of after ≡ place_of before
+SamePlace before after = place after.nodes ≡ place before.nodes
 
 pub record MadeOne (c : Class) (v f : ℕ) (before after : Forest) (n : ℕ) : Type 0 where
   pub number : n ≡ length (nodes_of before)
@@ -52,7 +54,7 @@ pub record MadeOne (c : Class) (v f : ℕ) (before after : Forest) (n : ℕ) : T
   pub healthy : Healthy after
   pub place : SamePlace before after
 
-pub record MadeNone (before after : Forest) (e : NodesFull) : Type 0 where
+pub record MadeNone (before after : Forest) (e : Full) : Type 0 where
   pub full : limit_of before ≤ length (nodes_of before)
   pub told : e.limit ≡ limit_of before
   pub place : SamePlace before after
@@ -74,7 +76,7 @@ pub record Reduced (c : Class) (from : ℕ) (before after : Forest) (n : ℕ) : 
   pub healthy : Healthy after
   pub place : SamePlace before after
 
-pub record Unreduced (c : Class) (from : ℕ) (before after : Forest) (e : NodesFull) : Type 0 where
+pub record Unreduced (c : Class) (from : ℕ) (before after : Forest) (e : Full) : Type 0 where
   pub full : limit_of before < length (over_row c (drop from (roots_of before)) (nodes_of before)).nodes
   pub told : e.limit ≡ limit_of before
   pub place : SamePlace before after
@@ -99,7 +101,7 @@ pub record BranchEnded (begin : ℕ) (before after : Forest) : Type 0 where
   pub healthy : Healthy after
   pub place : SamePlace before after
 
-pub record BranchFull (begin : ℕ) (before after : Forest) (e : NodesFull) : Type 0 where
+pub record BranchFull (begin : ℕ) (before after : Forest) (e : Full) : Type 0 where
   pub full : limit_of before < length (over_row class_is.Chain (drop begin (roots_of before)) (nodes_of before)).nodes
   pub told : e.limit ≡ limit_of before
   pub place : SamePlace before after
@@ -117,7 +119,7 @@ pub record Bracketed (c : Option Bracket) (inside : ℕ) (before after : Forest)
   pub healthy : Healthy after
   pub place : SamePlace before after
 
-pub record Unbracketed (c : Option Bracket) (inside : ℕ) (before after : Forest) (e : NodesFull) : Type 0 where
+pub record Unbracketed (c : Option Bracket) (inside : ℕ) (before after : Forest) (e : Full) : Type 0 where
   pub full : limit_of before < length (over_inside c inside before).nodes
   pub told : e.limit ≡ limit_of before
   pub place : SamePlace before after
@@ -136,7 +138,7 @@ pub record Finished (c : Option Bracket) (from begin : ℕ) (before after : Fore
   pub healthy : Healthy after
   pub place : SamePlace before after
 
-pub record Unfinished (c : Option Bracket) (from begin : ℕ) (before after : Forest) (e : NodesFull) : Type 0 where
+pub record Unfinished (c : Option Bracket) (from begin : ℕ) (before after : Forest) (e : Full) : Type 0 where
   pub full : limit_of before < length (grouped c from begin before).nodes
   pub told : e.limit ≡ limit_of before
   pub place : SamePlace before after

@@ -9,5 +9,4 @@ pub mod Reader
 pub mod Refusals
 pub mod Rules
 pub mod Source
-pub mod Waiting
 pub mod Words

@@ -1,25 +1,57 @@
 -- The parts of a reading: tokens in front, tables behind, and the roots that wait between them.
+use Rattle.std.specs.Prelude.{◌≡◌, ℕ, List}
 use Rattle.grammar.specs.declared.parser.Parser.{Parser}
-use Rattle.grammar.specs.declared.waiting.Waiting.{Waiting}
 use Rattle.grammar.specs.declared.words.Words.{Words}
 use Rattle.lexer.specs.declared.vocabulary.Spelling.{Spelling}
+use Rattle.tables.specs.Nodes.{Nodes}
+use Rattle.tables.specs.declared.filling.Filling.{Filling}
 use Rattle.tables.specs.declared.name.Name.{Name}
-use Rattle.tables.specs.declared.nodes.Nodes.{Nodes}
-use Rattle.tables.specs.declared.spots.Spots.{Spots}
 
+-- the nodes made so far, and the roots that wait for their parent
 pub record Forest : Type 0 where
   pub nodes : Nodes
-  pub waiting : Waiting
+  pub roots : List ℕ
+
+-- whose the tokens and tables are, by the ghost names of their loans
+pub record Lenders : Type 0 where
+  pub words : ℕ
+  pub names : ℕ
+  pub kinds : ℕ
+  pub nodes : ℕ
 
 pub record Reader : Type 0 where
   pub words : Words
-  pub names : Spots Name
-  pub kinds : Spots Spelling
+  pub names : Filling Name 64
+  pub kinds : Filling Spelling 120
   pub forest : Forest
+  pub lenders : Lenders
 
-abbrev pub forest_of : Nodes → Waiting → Forest
-forest_of nodes waiting = record { nodes = nodes; waiting = waiting }
+abbrev pub roots : Parser → List ℕ
+roots p = p.waiting.items
 
--- a parser and the tables that are lent to it
-abbrev pub reader : Parser → Spots Name → Spots Spelling → Nodes → Reader
-reader p names kinds nodes = record { words = p.words; names = names; kinds = kinds; forest = record { nodes = nodes; waiting = p.waiting } }
+abbrev pub forest : Parser → Forest
+forest p = record { nodes = p.nodes.now; roots = p.waiting.items }
+
+-- all that a parser holds
+abbrev pub reader : Parser → Reader
+reader p = record {
+  words = p.words.now;
+  names = p.names.now;
+  kinds = p.kinds.now;
+  forest = forest p;
+  lenders = record { words = p.words.ghost_name; names = p.names.ghost_name; kinds = p.kinds.ghost_name; nodes = p.nodes.ghost_name };
+}
+
+-- the same but for the forest
+abbrev pub with_forest : Reader → Forest → Reader
+with_forest r f = record { words = r.words; names = r.names; kinds = r.kinds; forest = f; lenders = r.lenders }
+
+-- the tables are those that were lent
+pub record SameLoans (before after : Parser) : Type 0 where
+  pub words : after.words.ghost_name ≡ before.words.ghost_name
+  pub names : after.names.ghost_name ≡ before.names.ghost_name
+  pub kinds : after.kinds.ghost_name ≡ before.kinds.ghost_name
+  pub nodes : after.nodes.ghost_name ≡ before.nodes.ghost_name
+  pub names_table : after.names.now.table.ghost_name ≡ before.names.now.table.ghost_name
+  pub kinds_table : after.kinds.now.table.ghost_name ≡ before.kinds.now.table.ghost_name
+  pub nodes_table : after.nodes.now.table.ghost_name ≡ before.nodes.now.table.ghost_name

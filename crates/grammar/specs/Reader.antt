@@ -1,6 +1,6 @@
 -- What a reader of the notation has read and has to read.
-use Rattle.std.specs.Prelude.{◌≡◌, ℕ, ◌-◌, ◌<◌, false, List, ◌∷◌, length, drop, replicate}
-use Rattle.grammar.specs.Forest.{nodes_of, roots_of, limit_of, Place, place_of, Healthy}
+use Rattle.std.specs.Prelude.{◌≡◌, ℕ, ◌<◌, false, List, ◌∷◌, length}
+use Rattle.grammar.specs.Forest.{nodes_of, roots_of, limit_of, Place, place, Clean, Healthy}
 use Rattle.grammar.specs.Refusals.{RefusedAs}
 use Rattle.grammar.specs.Words as words
 use Rattle.grammar.specs.Words.{word_spot, rest_of, WordTold}
@@ -8,7 +8,7 @@ use Rattle.grammar.specs.declared.piece.Piece.{Piece}
 use Rattle.grammar.specs.declared.piece.Piece.TheVariants as piece_is
 use Rattle.grammar.specs.declared.parser.Item.{Item}
 use Rattle.grammar.specs.declared.parser.Item.TheVariants as item_is
-use Rattle.grammar.specs.Parts.{Reader}
+use Rattle.grammar.specs.Parts.{Lenders, Reader}
 use Rattle.grammar.specs.declared.refusal.Refusal.{Refusal}
 use Rattle.grammar.specs.declared.words.Word.{Word}
 use Rattle.grammar.specs.declared.words.Words.{Words}
@@ -19,9 +19,8 @@ use Rattle.notation.specs.Standing.{ready, inside}
 use Rattle.notation.specs.Tables.{Tables}
 use Rattle.notation.specs.Tokens.{Bracket, Terminal, Token, terminal, Ending}
 use Rattle.tables.specs.Meant.{tables_meant}
-use Rattle.tables.specs.Records.{records, room}
+use Rattle.tables.specs.Filling.{room}
 use Rattle.tables.specs.declared.name.Name.{Name}
-use Rattle.tables.specs.declared.spots.Spots.{Spots}
 
 abbrev pub text_of : Reader → List ℕ
 text_of r = r.words.text.now
@@ -40,23 +39,18 @@ pub record Fixed : Type 0 where
   pub name_place : Place
   pub kind_place : Place
   pub node_place : Place
-
-abbrev pub spots_place : {E : Type 0} → Spots E → Place
-spots_place t = record { long = length t.table.now; whose = t.table.ghost_name }
+  pub lenders : Lenders
 
 abbrev pub fixed : Reader → Fixed
 fixed r = record {
   text = text_of r;
   ending = words.ending r.words;
   limits = record { names = room r.names; kinds = room r.kinds; nodes = limit_of r.forest };
-  name_place = spots_place r.names;
-  kind_place = spots_place r.kinds;
-  node_place = place_of r.forest;
+  name_place = place r.names;
+  kind_place = place r.kinds;
+  node_place = place r.forest.nodes;
+  lenders = r.lenders;
 }
-
--- every place past the records known has this value
-abbrev pub Clean : {E : Type 0} → Spots E → E → Type 0
-Clean t zero = drop (length (records t)) t.table.now ≡ replicate (length t.table.now - length (records t)) zero
 
 abbrev pub zero_name : Name
 zero_name = record { place = 0; length = 0; root = 0 }
@@ -66,10 +60,6 @@ zero_spelling = record { place = 0; length = 0 }
 
 -- what holds between two calls
 pub record Sound (r : Reader) : Type 0 where
-  pub names_text : r.names.text.now ≡ text_of r
-  pub kinds_text : r.kinds.text.now ≡ text_of r
-  pub names_most : r.names.limit ≡ 64
-  pub kinds_most : r.kinds.limit ≡ 120
   pub names_clean : Clean r.names zero_name
   pub kinds_clean : Clean r.kinds zero_spelling
   pub healthy : Healthy r.forest

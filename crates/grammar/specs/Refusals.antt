@@ -3,7 +3,7 @@ use Rattle.std.specs.Prelude.{◌≡◌, ℕ, List, [], ◌∷◌, Some, None, O
 use Rattle.grammar.specs.declared.refusal.Refusal.{Refusal}
 use Rattle.grammar.specs.declared.refusal.Refusal.TheVariants.{TooLong, Fault, Misplaced, TooDeep, Misspelt, NamesFull, KindsFull, NodesFull, SecondRule, NoRule}
 use Rattle.notation.specs.Reading.{Outcome, refused, faulty, misplaced, too_deep, misspelt, names_full, kinds_full, nodes_full as too_many_nodes, second_rule, no_rule}
-use Rattle.grammar.specs.declared.refusal.NodesFull.{NodesFull as NodesFullTold}
+use Rattle.tables.specs.declared.full.Full.{Full}
 use Rattle.token.specs.Faults.{fault_number}
 use Rattle.token.specs.declared.refusal.TooLong.{TooLong as TooLongTold}
 use Rattle.token.specs.declared.token.Fault.{Fault as AFault}
@@ -34,7 +34,7 @@ too_long x = TooLong x
 abbrev pub at_fault : AFault → Refusal
 at_fault x = Fault x
 
-abbrev pub nodes_full : NodesFullTold → Refusal
+abbrev pub nodes_full : Full → Refusal
 nodes_full x = NodesFull x.limit
 
 -- the reading is refused so

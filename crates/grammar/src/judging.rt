@@ -8,39 +8,15 @@ ghost use Rattle.tokens.specs.Layered.{Layered};
 use crate::marks::vocabulary;
 use crate::parser::Parser;
 use crate::refusal::Refusal;
-use crate::waiting::Waiting;
 use crate::words::Words;
+use arrayvec::ArrayVec;
 use lexer::Spelling;
-use tables::{Name, Nodes, Spots, wipe_table};
-use tokens::{Skipping, TextSource, layered};
-use tree::{Class, Node};
-
-// How many names and how many kinds a grammar can have.
-const NAMES: usize = 64;
-
-const KINDS: usize = 120;
-
-// What stands in unused places.
-pub const ZERO_NAME: Name = Name {
-    place: 0,
-    length: 0,
-    root: 0,
-};
-
-pub const ZERO_SPELLING: Spelling = Spelling {
-    place: 0,
-    length: 0,
-};
-
-pub const ZERO_NODE: Node = Node {
-    class: Class::Empty,
-    value: 0,
-    first: 0,
-    next: 0,
-};
+use tables::{Filling, Kinds, Name, Names, Nodes, wipe_table};
+use tokens::layered;
+use tree::Node;
 
 // How many entries each table has.
-#[derive(Clone, Copy, Debug, PartialEq, Eq)]
+#[derive(Clone, Copy, Debug, Default, PartialEq, Eq)]
 pub struct Counts {
     pub names: usize,
     pub kinds: usize,
@@ -48,61 +24,48 @@ pub struct Counts {
 }
 
 // Reads the tokens of a text into tables without entries.
-fn read_all<'t>(
-    source: Skipping<TextSource<'t, 'static, 'static>>,
-    text: &'t [u8],
-    names: &mut Spots<'_, '_, Name>,
-    kinds: &mut Spots<'_, '_, Spelling>,
-    nodes: &mut Nodes<'_>,
+fn read_all<'p, 'a>(
+    words: &'p mut Words<'a>,
+    names: &'p mut Names<'a>,
+    kinds: &'p mut Kinds<'a>,
+    nodes: &'p mut Nodes<'a>,
 ) -> Result<Counts, Refusal>
-    requires { Layered (map Some notation_kinds) text.now source × Fresh text.now names.old kinds.old nodes.old }
-    ensures told { MatchResult result (Filled text.now (behind names.old kinds.old nodes.old) (behind names.new kinds.new nodes.new)) (Unfilled text.now (behind names.old kinds.old nodes.old) (behind names.new kinds.new nodes.new)) }
+    requires { Layered (map Some notation_kinds) words.old.text.now words.old.source × Fresh names.old kinds.old nodes.old }
+    ensures told { MatchResult result (Filled words.old.text.now (behind names.old kinds.old nodes.old) (behind names.new kinds.new nodes.new)) (Unfilled words.old.text.now (behind names.old kinds.old nodes.old) (behind names.new kinds.new nodes.new)) }
     ensures names_loan { names.new.table.ghost_name ≡ names.old.table.ghost_name }
     ensures kinds_loan { kinds.new.table.ghost_name ≡ kinds.old.table.ghost_name }
     ensures nodes_loan { nodes.new.table.ghost_name ≡ nodes.old.table.ghost_name }
 {
     let mut parser = Parser {
-        words: Words { source, text },
-        waiting: Waiting::new(),
+        words,
+        waiting: ArrayVec::new(),
+        names,
+        kinds,
+        nodes,
     };
-    parser.rules(names, kinds, nodes)?;
+    parser.rules()?;
     Ok(Counts {
-        names: names.known(),
-        kinds: kinds.known(),
-        nodes: nodes.count(),
+        names: parser.names.len(),
+        kinds: parser.kinds.len(),
+        nodes: parser.nodes.len(),
     })
 }
 
 // Reads a text into the tables. Where it is refused, what was read stays there.
-fn fill(
-    text: &[u8],
-    names: &mut [Name],
-    kinds: &mut [Spelling],
-    nodes: &mut [Node],
+fn fill<'a>(
+    text: &'a [u8],
+    names: &'a mut [Name],
+    kinds: &'a mut [Spelling],
+    nodes: &'a mut [Node],
 ) -> Result<Counts, Refusal>
     ensures { MatchResult result (Filled text.now (lent names.old kinds.old nodes.old) (lent names.new kinds.new nodes.new)) (Unfilled text.now (lent names.old kinds.old nodes.old) (lent names.new kinds.new nodes.new)) }
 {
     let source = layered(text, vocabulary())?;
-    wipe_table(names, ZERO_NAME);
-    wipe_table(kinds, ZERO_SPELLING);
-    wipe_table(nodes, ZERO_NODE);
-    let mut names = Spots {
-        text,
-        table: names,
-        limit: NAMES,
-        count: 0,
-    };
-    let mut kinds = Spots {
-        text,
-        table: kinds,
-        limit: KINDS,
-        count: 0,
-    };
-    let mut nodes = Nodes {
-        table: nodes,
-        count: 0,
-    };
-    read_all(source, text, &mut names, &mut kinds, &mut nodes)
+    let mut words = Words { source, text };
+    let mut names = Filling::new(names, Name::default());
+    let mut kinds = Filling::new(kinds, Spelling::default());
+    let mut nodes = Filling::new(nodes, Node::default());
+    read_all(&mut words, &mut names, &mut kinds, &mut nodes)
 }
 
 // Judges the text of a grammar. Where it is one, the tables hold it from place 0 on and 0 after
@@ -115,13 +78,11 @@ pub fn judge(
 ) -> Result<Counts, Refusal>
     ensures { MatchResult result (Accepted text.now (lent names.old kinds.old nodes.old) (lent names.new kinds.new nodes.new)) (Rejected text.now (lent names.old kinds.old nodes.old) (lent names.new kinds.new nodes.new)) }
 {
-    match fill(text, names, kinds, nodes) {
-        Ok(counts) => Ok(counts),
-        Err(refusal) => {
-            wipe_table(names, ZERO_NAME);
-            wipe_table(kinds, ZERO_SPELLING);
-            wipe_table(nodes, ZERO_NODE);
-            Err(refusal)
-        }
+    let answer = fill(text, names, kinds, nodes);
+    if answer.is_err() {
+        wipe_table(names, Name::default());
+        wipe_table(kinds, Spelling::default());
+        wipe_table(nodes, Node::default());
     }
+    answer
 }

@@ -10,10 +10,9 @@ mod piece;
 mod refusal;
 mod rules;
 mod spelling;
-mod waiting;
 mod words;
 
-pub use judging::{Counts, ZERO_NAME, ZERO_NODE, ZERO_SPELLING, judge};
+pub use judging::{Counts, judge};
 pub use marks::vocabulary;
 pub use piece::{Bracket, Piece, piece_of};
 pub use refusal::Refusal;

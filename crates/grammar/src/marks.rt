@@ -54,7 +54,7 @@ static SPELLINGS: [Spelling; 11] = [
 ];
 
 // The notation's own vocabulary: words are kind 1, strings kind 2, and the marks kinds 3 to 11.
-pub fn vocabulary() -> Vocabulary<'static, 'static>
+pub fn vocabulary() -> Vocabulary<'static>
     ensures { lexicon result ≡ map Some notation_kinds }
 {
     Vocabulary {

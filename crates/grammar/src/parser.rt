@@ -1,26 +1,25 @@
-// The parser of the notation: the tokens to come, and a stack of roots. The tables that it fills
-// are lent to each call.
+// The parser of the notation: the tokens to come, a stack of roots, and the tables that it fills.
 ghost use Rattle.std.specs.Prelude.{◌≡◌, ℕ, ◌≤◌, MatchResult};
 ghost use Rattle.grammar.specs.Parts.{reader};
-ghost use Rattle.grammar.specs.Words.{AheadTold, WordTold, Stuck, Halted};
-ghost use Rattle.grammar.specs.Reader.{Sound, NamedFirst, TerminalFirst, ItemTold, ItemRefused};
-ghost use Rattle.lexer.specs.declared.vocabulary.Spelling.{Spelling as SpellingOf};
-ghost use Rattle.tables.specs.declared.name.Name.{Name as NameOf};
-ghost use Rattle.tables.specs.declared.spots.Spots.{Spots as SpotsOf};
+ghost use Rattle.grammar.specs.Reader.{Sound, NamedFirst, TerminalFirst, SpellingFirst, ItemTold, ItemRefused};
 
-use crate::forest::make;
 use crate::refusal::Refusal;
-use crate::waiting::Waiting;
-use crate::words::{Ahead, Word, Words};
+use crate::spelling::may_be_spelled;
+use crate::words::{Word, Words};
+use arrayvec::ArrayVec;
 use lexer::Spelling;
-use tables::{Name, Nodes, Spots};
-use token::Fault;
+use tables::{Kinds, NODES, Name, Names, Nodes, clip};
 use tree::{Class, NONE};
 
+// The tables are lent to the parser. The roots that wait for their parent are as on the stack of
+// a shift-reduce parser; each is a node of its own, so that there is room for them.
 #[derive(Drop)]
-pub(crate) struct Parser<'t> {
-    pub words: Words<'t>,
-    pub waiting: Waiting,
+pub(crate) struct Parser<'p, 'a> {
+    pub words: &'p mut Words<'a>,
+    pub waiting: ArrayVec<u16, NODES>,
+    pub names: &'p mut Names<'a>,
+    pub kinds: &'p mut Kinds<'a>,
+    pub nodes: &'p mut Nodes<'a>,
 }
 
 // What an item was read as: its node, or none, at a mark that ends the sequence.
@@ -30,63 +29,50 @@ pub(crate) enum Item {
     Mark(Word),
 }
 
-impl Parser<'_> {
-    // The first token, or else the end.
-    pub(crate) fn ahead(&self) -> Result<Ahead, Fault>
-        ensures { MatchResult result (AheadTold self.now.words) (Stuck self.now.words) }
-    {
-        self.words.ahead()
-    }
-
-    // The first token, where the text may not end.
-    pub(crate) fn word(&self) -> Result<Word, Refusal>
-        ensures { MatchResult result (WordTold self.now.words) (Halted self.now.words) }
-    {
-        self.words.word()
-    }
-
+impl Parser<'_, '_> {
     // A name in a sequence.
-    pub(crate) fn name_item(
-        &mut self,
-        names: &mut Spots<'_, '_, Name>,
-        nodes: &mut Nodes<'_>,
-        word: Word,
-    ) -> Result<Item, Refusal>
-        requires { NamedFirst self.old.words word × (names.old.limit ≡ 64) }
-        ensures { (kinds : SpotsOf SpellingOf) (depth : ℕ) → Sound (reader self.old names.old kinds nodes.old) → depth ≤ 32 → MatchResult result (ItemTold depth (reader self.old names.old kinds nodes.old) (reader self.new names.new kinds nodes.new)) (ItemRefused depth (reader self.old names.old kinds nodes.old) (reader self.new names.new kinds nodes.new)) }
+    pub(crate) fn name_item(&mut self, word: Word) -> Result<Item, Refusal>
+        requires { NamedFirst self.old.words.now word × Sound (reader self.old) }
+        ensures { (depth : ℕ) → depth ≤ 32 → MatchResult result (ItemTold depth (reader self.old) (reader self.new)) (ItemRefused depth (reader self.old) (reader self.new)) }
     {
         let entry = Name {
             place: word.place,
             length: word.length,
             root: NONE,
         };
-        let Ok(name) = names.number(entry) else {
+        let Ok(name) = self.names.number(self.words.text, entry) else {
             return Err(Refusal::NamesFull(word.place));
         };
-        let node = make(nodes, Class::Name, name as u16, NONE)?;
+        let node = self.nodes.make(Class::Name, name as u16, NONE)?;
         self.words.advance();
         Ok(Item::Node(node))
     }
 
     // A class word or a quoted spelling in a sequence; kinds are numbered from 1.
-    pub(crate) fn token_item(
-        &mut self,
-        kinds: &mut Spots<'_, '_, Spelling>,
-        nodes: &mut Nodes<'_>,
-        word: Word,
-    ) -> Result<Item, Refusal>
-        requires { TerminalFirst self.old.words word × (kinds.old.limit ≡ 120) }
-        ensures { (names : SpotsOf NameOf) (depth : ℕ) → Sound (reader self.old names kinds.old nodes.old) → depth ≤ 32 → MatchResult result (ItemTold depth (reader self.old names kinds.old nodes.old) (reader self.new names kinds.new nodes.new)) (ItemRefused depth (reader self.old names kinds.old nodes.old) (reader self.new names kinds.new nodes.new)) }
+    pub(crate) fn token_item(&mut self, word: Word) -> Result<Item, Refusal>
+        requires { TerminalFirst self.old.words.now word × Sound (reader self.old) }
+        ensures { (depth : ℕ) → depth ≤ 32 → MatchResult result (ItemTold depth (reader self.old) (reader self.new)) (ItemRefused depth (reader self.old) (reader self.new)) }
     {
         let entry = Spelling {
             place: word.place,
             length: word.length,
         };
-        let Ok(kind) = kinds.number(entry) else {
+        let Ok(kind) = self.kinds.number(self.words.text, entry) else {
             return Err(Refusal::KindsFull(word.place));
         };
-        let node = make(nodes, Class::Token, kind as u16 + 1, NONE)?;
+        let node = self.nodes.make(Class::Token, kind as u16 + 1, NONE)?;
         self.words.advance();
         Ok(Item::Node(node))
+    }
+
+    // A quoted spelling in a sequence.
+    pub(crate) fn spelling_item(&mut self, word: Word) -> Result<Item, Refusal>
+        requires { SpellingFirst self.old.words.now word × Sound (reader self.old) }
+        ensures { (depth : ℕ) → depth ≤ 32 → MatchResult result (ItemTold depth (reader self.old) (reader self.new)) (ItemRefused depth (reader self.old) (reader self.new)) }
+    {
+        if !may_be_spelled(clip(self.words.text, word.place, word.length)) {
+            return Err(Refusal::Misspelt(word.place));
+        }
+        self.token_item(word)
     }
 }

@@ -2,13 +2,8 @@
 ghost use Rattle.std.specs.Prelude.{◌≡◌};
 ghost use Rattle.grammar.specs.Refusals.{numbered as numbers, third, too_long as told_too_long, at_fault, nodes_full};
 
+use tables::Full;
 use token::{Fault, Numbered, TooLong};
-
-// There are as many nodes as there can be, and how many that is.
-#[derive(Clone, Copy)]
-pub struct NodesFull {
-    pub limit: usize,
-}
 
 // Refusals 1 to 10, in this order. Each has a place of the text as its value, but for the first
 // and the eighth.
@@ -58,14 +53,14 @@ impl Numbered for Refusal {
         match self {
             Refusal::TooLong(too_long) => too_long.limit,
             Refusal::Fault(fault) => fault.place,
-            Refusal::Misplaced(place) => *place,
-            Refusal::TooDeep(place) => *place,
-            Refusal::Misspelt(place) => *place,
-            Refusal::NamesFull(place) => *place,
-            Refusal::KindsFull(place) => *place,
             Refusal::NodesFull(limit) => *limit,
-            Refusal::SecondRule(place) => *place,
-            Refusal::NoRule(place) => *place,
+            Refusal::Misplaced(place)
+            | Refusal::TooDeep(place)
+            | Refusal::Misspelt(place)
+            | Refusal::NamesFull(place)
+            | Refusal::KindsFull(place)
+            | Refusal::SecondRule(place)
+            | Refusal::NoRule(place) => *place,
         }
     }
 }
@@ -98,10 +93,11 @@ impl From<Fault> for Refusal {
     }
 }
 
-impl From<NodesFull> for Refusal {
+// Of a full table only that of the nodes is told by how many there can be.
+impl From<Full> for Refusal {
     ghost from_gives = { λ x r. r ≡ nodes_full x };
 
-    fn from(full: NodesFull) -> Refusal {
+    fn from(full: Full) -> Refusal {
         Refusal::NodesFull(full.limit)
     }
 }

@@ -1,28 +1,23 @@
 // Rules, up to the end of the text.
-ghost use Rattle.std.specs.Prelude.{◌≡◌, MatchResult};
-ghost use Rattle.grammar.specs.Parts.{reader};
+ghost use Rattle.std.specs.Prelude.{◌≡◌, ℕ, MatchResult};
+ghost use Rattle.grammar.specs.Parts.{reader, SameLoans};
 ghost use Rattle.grammar.specs.Reader.{Sound};
 ghost use Rattle.grammar.specs.Words.{WordTold};
 ghost use Rattle.grammar.specs.Rules.{HeadRead, HeadRefused, ArrowRead, ArrowRefused, RuleRead, AllRead, NamesRuled, NamesLack};
-ghost use Rattle.tables.specs.Records.{records};
-ghost use Rattle.lexer.specs.declared.vocabulary.Spelling.{Spelling as SpellingOf};
-ghost use Rattle.tables.specs.declared.name.Name.{Name as NameOf};
-ghost use Rattle.tables.specs.declared.nodes.Nodes.{Nodes as NodesOf};
-ghost use Rattle.tables.specs.declared.spots.Spots.{Spots as SpotsOf};
+ghost use Rattle.tables.specs.Filling.{entries};
 
 use crate::parser::Parser;
 use crate::piece::Piece;
 use crate::refusal::Refusal;
 use crate::words::{Ahead, Word};
-use lexer::Spelling;
-use tables::{Name, Nodes, Spots};
+use tables::Name;
 use tree::NONE;
 
-impl Parser<'_> {
+impl Parser<'_, '_> {
     // The name of a rule, which has none yet.
-    fn head(&mut self, names: &mut Spots<'_, '_, Name>, word: Word) -> Result<usize, Refusal>
-        requires { WordTold self.old.words word }
-        ensures { (kinds : SpotsOf SpellingOf) (nodes : NodesOf) → Sound (reader self.old names.old kinds nodes) → MatchResult result (HeadRead (reader self.old names.old kinds nodes) (reader self.new names.new kinds nodes)) (HeadRefused (reader self.old names.old kinds nodes) (reader self.new names.new kinds nodes)) }
+    fn head(&mut self, word: Word) -> Result<usize, Refusal>
+        requires { WordTold self.old.words.now word × Sound (reader self.old) }
+        ensures { MatchResult result (HeadRead (reader self.old) (reader self.new)) (HeadRefused (reader self.old) (reader self.new)) }
     {
         if word.piece != Piece::Name {
             return Err(Refusal::Misplaced(word.place));
@@ -32,10 +27,10 @@ impl Parser<'_> {
             length: word.length,
             root: NONE,
         };
-        let Ok(name) = names.number(entry) else {
+        let Ok(name) = self.names.number(self.words.text, entry) else {
             return Err(Refusal::NamesFull(word.place));
         };
-        if names.has_rule(name) {
+        if self.names.has_rule(name) {
             return Err(Refusal::SecondRule(word.place));
         }
         self.words.advance();
@@ -43,9 +38,10 @@ impl Parser<'_> {
     }
 
     fn arrow(&mut self) -> Result<(), Refusal>
-        ensures { (names : SpotsOf NameOf) (kinds : SpotsOf SpellingOf) (nodes : NodesOf) → Sound (reader self.old names kinds nodes) → MatchResult result (λ _. ArrowRead (reader self.old names kinds nodes) (reader self.new names kinds nodes)) (ArrowRefused (reader self.old names kinds nodes) (reader self.new names kinds nodes)) }
+        requires { Sound (reader self.old) }
+        ensures { MatchResult result (λ _. ArrowRead (reader self.old) (reader self.new)) (ArrowRefused (reader self.old) (reader self.new)) }
     {
-        let word = self.word()?;
+        let word = self.words.word()?;
         if word.piece != Piece::Arrow {
             return Err(Refusal::Misplaced(word.place));
         }
@@ -53,57 +49,41 @@ impl Parser<'_> {
         Ok(())
     }
 
-    fn rule(
-        &mut self,
-        names: &mut Spots<'_, '_, Name>,
-        kinds: &mut Spots<'_, '_, Spelling>,
-        nodes: &mut Nodes<'_>,
-        word: Word,
-    ) -> Result<(), Refusal>
-        requires { Sound (reader self.old names.old kinds.old nodes.old) × WordTold self.old.words word }
-        ensures { MatchResult result (λ _. RuleRead (reader self.old names.old kinds.old nodes.old) (reader self.new names.new kinds.new nodes.new)) (HeadRefused (reader self.old names.old kinds.old nodes.old) (reader self.new names.new kinds.new nodes.new)) }
+    fn rule(&mut self, word: Word) -> Result<(), Refusal>
+        requires { WordTold self.old.words.now word × Sound (reader self.old) }
+        ensures { MatchResult result (λ _. RuleRead (reader self.old) (reader self.new)) (HeadRefused (reader self.old) (reader self.new)) }
     {
-        let name = self.head(names, word)?;
+        let name = self.head(word)?;
         self.arrow()?;
-        let root = self.branches(names, kinds, nodes, None, 0)?;
-        names.set_root(name, root);
+        let root = self.branches(None, 0)?;
+        self.names.set_root(name, root);
         Ok(())
     }
 
-    // All rules.
-    pub(crate) fn rules(
-        &mut self,
-        names: &mut Spots<'_, '_, Name>,
-        kinds: &mut Spots<'_, '_, Spelling>,
-        nodes: &mut Nodes<'_>,
-    ) -> Result<(), Refusal>
-        requires { Sound (reader self.old names.old kinds.old nodes.old) }
-        ensures told { MatchResult result (λ _. AllRead (reader self.old names.old kinds.old nodes.old) (reader self.new names.new kinds.new nodes.new)) (HeadRefused (reader self.old names.old kinds.old nodes.old) (reader self.new names.new kinds.new nodes.new)) }
-        ensures names_loan { names.new.table.ghost_name ≡ names.old.table.ghost_name }
-        ensures kinds_loan { kinds.new.table.ghost_name ≡ kinds.old.table.ghost_name }
-        ensures nodes_loan { nodes.new.table.ghost_name ≡ nodes.old.table.ghost_name }
+    // The end of the text: there has to be a rule, and one for each name.
+    fn end_of_text(&self, place: usize) -> Result<(), Refusal>
+        ensures { MatchResult result (λ _. NamesRuled (entries self.now.names.now)) (NamesLack place (entries self.now.names.now)) }
     {
-        loop {
-            match self.ahead()? {
-                Ahead::Word(word) => self.rule(names, kinds, nodes, word)?,
-                Ahead::End(place) => {
-                    end_of_text(names, place)?;
-                    return Ok(());
-                }
-            }
+        if self.names.len() == 0 {
+            return Err(Refusal::Misplaced(place));
+        }
+        match self.names.unruled() {
+            Some(first) => Err(Refusal::NoRule(first)),
+            None => Ok(()),
         }
     }
-}
 
-// The end of the text: there has to be a rule, and one for each name.
-fn end_of_text(names: &Spots<'_, '_, Name>, place: usize) -> Result<(), Refusal>
-    ensures { MatchResult result (λ _. NamesRuled (records names.now)) (NamesLack place (records names.now)) }
-{
-    if names.known() == 0 {
-        return Err(Refusal::Misplaced(place));
-    }
-    match names.unruled() {
-        Some(first) => Err(Refusal::NoRule(first)),
-        None => Ok(()),
+    // All rules.
+    pub(crate) fn rules(&mut self) -> Result<(), Refusal>
+        requires { Sound (reader self.old) }
+        ensures told { MatchResult result (λ _. AllRead (reader self.old) (reader self.new)) (HeadRefused (reader self.old) (reader self.new)) }
+        ensures loans { SameLoans self.old self.new }
+    {
+        loop {
+            match self.words.ahead()? {
+                Ahead::Word(word) => self.rule(word)?,
+                Ahead::End(place) => return self.end_of_text(place),
+            }
+        }
     }
 }

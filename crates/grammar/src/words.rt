@@ -25,9 +25,9 @@ pub(crate) enum Ahead {
 
 // The source of a text, and the text.
 #[derive(Drop)]
-pub(crate) struct Words<'t> {
-    pub source: Skipping<TextSource<'t, 'static, 'static>>,
-    pub text: &'t [u8],
+pub(crate) struct Words<'a> {
+    pub source: Skipping<TextSource<'a, 'static>>,
+    pub text: &'a [u8],
 }
 
 impl Words<'_> {

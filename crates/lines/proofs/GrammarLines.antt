@@ -1,5 +1,5 @@
 -- The line of a grammar's text, from what judging it says.
-use Rattle.std.proofs.Common.{◌≡◌, ℕ, ◌≤◌, ltb, List, ◌++◌, map, length, take, IfOk, Result, sym, ap, ◌∙◌, subst, length-take-le}
+use Rattle.std.proofs.Common.{◌≡◌, ℕ, ◌≤◌, ltb, List, map, length, take, sym, ap, ◌∙◌, subst, length-take-le}
 use lib.ListN.{length-map}
 use Rattle.std.proofs.lemmas.Bool.{cond-true, cond-false, lt-ltb, le-ltb}
 use Rattle.grammar.specs.Judged.{Lent, limits_of, held, AsLong, Accepted, RefusedFor, RefusedRight, Rejected}
@@ -13,10 +13,6 @@ use Rattle.notation.proofs.Judging.{right_is_read, wrong_is_refused}
 use Rattle.notation.specs.Judging.{Right, Wrong}
 use Rattle.notation.specs.Reading.{Limits, Refusal as ReadingRefusal, faulty, misplaced, too_deep, misspelt, names_full, kinds_full, nodes_full, second_rule, no_rule, numbered as reading_numbered, Outcome, read, refused, reading}
 use Rattle.token.specs.Faults.{fault_number}
-
--- the same is put where the words are the same
-pub put_as : {X Y : Type 0} (r : Result X Y) (before after words line : List ℕ) → words ≡ line → IfOk r (λ _. after ≡ before ++ words) → IfOk r (λ _. after ≡ before ++ line)
-put_as r before after words line same h = subst (λ w. IfOk r (λ _. after ≡ before ++ w)) same h
 
 limits_same : (before after : Lent) → AsLong before after → limits_of after ≡ limits_of before
 limits_same before after l = cc

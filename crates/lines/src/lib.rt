@@ -3,8 +3,8 @@
 
 mod judged;
 mod output;
-mod put;
+mod printed;
 mod survey;
 
 pub use judged::judged_line;
-pub use output::printout;
+pub use printed::printout;

@@ -1,28 +1,23 @@
 // A survey of a source: its tokens counted by kind, and its ending.
 ghost use Rattle.std.specs.Prelude.{◌≡◌, ◌≤◌, length, MatchResult};
-ghost use Rattle.lines.specs.Lines.{one_of, survey_of_tokens, Surveyed};
+ghost use Rattle.lines.specs.Lines.{survey_of_tokens, Surveyed};
 ghost use Rattle.token.specs.Refusals.{IsTooLong};
 
 use grammar::vocabulary;
 use tokens::{Ending, Next, TokenSource, TooLong, layered};
 
+// The kinds of words and of strings.
 const WORD: u8 = 1;
 
 const STRING: u8 = 2;
 
 // How many tokens a source has, how many of them are words and strings, and how it ends.
-#[derive(Clone, Copy)]
+#[derive(Clone, Copy, Debug, PartialEq, Eq)]
 pub(crate) struct Survey {
     pub tokens: usize,
     pub words: usize,
     pub strings: usize,
     pub ending: Ending,
-}
-
-fn one_if(kind: u8, sought: u8) -> usize
-    ensures { result ≡ one_of kind sought }
-{
-    if kind == sought { 1 } else { 0 }
 }
 
 // Goes through a source to its ending.
@@ -33,24 +28,23 @@ fn survey_of<S: TokenSource>(source: &mut S) -> Survey
     let mut tokens = 0;
     let mut words = 0;
     let mut strings = 0;
-    loop {
-        let ending = match source.look() {
+    let ending = loop {
+        match source.look() {
             Ok(Next::Token(token)) => {
                 let _ = source.take();
                 tokens += 1;
-                words += one_if(token.kind, WORD);
-                strings += one_if(token.kind, STRING);
-                continue;
+                words += usize::from(token.kind == WORD);
+                strings += usize::from(token.kind == STRING);
             }
-            Ok(Next::End(place)) => Ending::End(place),
-            Err(fault) => Ending::Fault(fault),
-        };
-        return Survey {
-            tokens,
-            words,
-            strings,
-            ending,
-        };
+            Ok(Next::End(place)) => break Ending::End(place),
+            Err(fault) => break Ending::Fault(fault),
+        }
+    };
+    Survey {
+        tokens,
+        words,
+        strings,
+        ending,
     }
 }
 

@@ -32,10 +32,10 @@ abbrev pub unlexed : TextSource → Scan
 unlexed s = scan_from (lexicon s.vocabulary) (drop s.ahead.place s.text.now) s.ahead.place
 
 abbrev pub text_tokens : TextSource → List Token
-text_tokens s = with_held s.ahead.held (unlexed s).tokens
+text_tokens s = with_held s.ahead.next (unlexed s).tokens
 
 abbrev pub text_ending : TextSource → Ending
-text_ending s = held_ending s.ahead.held (unlexed s).ending
+text_ending s = held_ending s.ahead.next (unlexed s).ending
 
 -- the source of a text as it is made: it means the text's scan, which is the one list of tokens and the one
 -- ending that cut the text well
@@ -49,4 +49,4 @@ pub record Scans (x : Lexicon) (text : List ℕ) (s : TextSource) : Type 0 where
 
 -- the law of kinds, for the text source
 pub text_kinds : (s : TextSource) → AllByRecursion KindFits (text_tokens s)
-text_kinds s = held_kinds s.ahead.held (unlexed s).tokens (scan_kinds (lexicon s.vocabulary) (drop s.ahead.place s.text.now) 0 s.ahead.place)
+text_kinds s = held_kinds s.ahead.next (unlexed s).tokens s.fits (scan_kinds (lexicon s.vocabulary) (drop s.ahead.place s.text.now) 0 s.ahead.place)

@@ -38,3 +38,9 @@ left (t ∷ ts) = ts
 abbrev pub SameIfNone : {S : Type 0} → List Token → S → S → Type 0
 SameIfNone [] s s' = s ≡ s'
 SameIfNone (t ∷ ts) s s' = Unit {0}
+
+-- no token comes next, but the ending at that place
+abbrev pub EndsAt : Result Next Fault → NothingLeft → Type 0
+EndsAt (Ok (next_is.Token t)) r = ⊥
+EndsAt (Ok (next_is.End p)) r = r.place ≡ p
+EndsAt (Err f) r = r.place ≡ f.place

@@ -1,7 +1,6 @@
 // Token sources: what the readers above read from.
 #![tactic(auto)]
 
-mod held;
 mod layering;
 mod list;
 mod skipping;

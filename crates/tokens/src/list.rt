@@ -1,19 +1,22 @@
 // The list source: a table of stored kinds.
-ghost use Rattle.std.specs.Prelude.{◌≡◌, drop};
+ghost use Rattle.std.specs.Prelude.{◌≡◌, ◌≤◌, length, drop};
 ghost use Rattle.tokens.specs.Listed.{is_kind, listed_kinds};
-ghost use Rattle.tokens.specs.Meaning.{list_tokens, list_ending, Lists};
 
-use crate::source::TokenSource;
+use crate::source::{TokenSource, first};
 use token::{Fault, FaultCode, Next, NothingLeft, Token};
 
 // A table of kinds, read from a place on. A token's place is its index and its length is 1.
-#[derive(Drop)]
+#[derive(Debug, Drop)]
 pub struct ListSource<'a> {
     kinds: &'a [u8],
     place: usize,
+    ghost within: { place ≤ length kinds.now },
 }
 
 impl<'a> ListSource<'a> {
+    ghost use Rattle.tokens.specs.Meaning.{Lists};
+
+    #[tactic(auto, using(crate::proofs::Listing::well_listed))]
     pub fn new(kinds: &'a [u8]) -> ListSource<'a>
         ensures { Lists kinds.now result }
     {
@@ -24,10 +27,12 @@ impl<'a> ListSource<'a> {
 fn fits(kind: u8) -> bool
     ensures { result ≡ is_kind kind }
 {
-    1 <= kind && kind <= 122
+    (1..=122).contains(&kind)
 }
 
 impl TokenSource for ListSource<'_> {
+    ghost use Rattle.tokens.specs.Meaning.{list_tokens, list_ending};
+
     ghost tokens = { list_tokens };
 
     ghost ending = { list_ending };
@@ -38,10 +43,9 @@ impl TokenSource for ListSource<'_> {
 
     fn look(&self) -> Result<Next, Fault> {
         let place = self.place;
-        if place >= self.kinds.len() {
+        let Some(&kind) = self.kinds.get(place) else {
             return Ok(Next::End(place));
-        }
-        let kind = self.kinds[place];
+        };
         if !fits(kind) {
             return Err(Fault {
                 code: FaultCode::OutOfRange,
@@ -55,14 +59,10 @@ impl TokenSource for ListSource<'_> {
         }))
     }
 
+    #[tactic(auto, using(crate::proofs::Listing::steps_on))]
     fn take(&mut self) -> Result<Token, NothingLeft> {
-        match self.look() {
-            Ok(Next::Token(token)) => {
-                self.place += 1;
-                Ok(token)
-            }
-            Ok(Next::End(place)) => Err(NothingLeft { place }),
-            Err(fault) => Err(NothingLeft { place: fault.place }),
-        }
+        let token = first(self.look())?;
+        self.place += 1;
+        Ok(token)
     }
 }

@@ -1,36 +1,37 @@
 // The skipping layer: any source without some kinds.
 ghost use Rattle.std.specs.Prelude.{◌≡◌};
-ghost use Rattle.tokens.specs.Held.{with_held, held_ending};
+ghost use Rattle.tokens.specs.Held.{with_held, held_ending, NextFits, next_fits_prop};
 ghost use Rattle.tokens.specs.Layer.{without, layer_kinds};
 
-use crate::held::Held;
-use crate::source::{TokenSource, WithText};
+use crate::source::{TokenSource, WithText, first};
 use kindset::KindSet;
 use token::{Fault, Next, NothingLeft, Token};
 
 // A source whose list is that of the inner source without the skipped kinds, with the same
 // ending. It holds its first token, or else the ending; the inner source has what follows.
-#[derive(Drop)]
+#[derive(Debug, Drop)]
 pub struct Skipping<S> {
     source: S,
     skipped: KindSet,
-    held: Held,
+    held: Result<Next, Fault>,
+    ghost fits: { NextFits held } by { next_fits_prop held },
 }
 
 // Takes tokens up to the first that is kept, which is answered, or else the ending.
-fn next_kept<S: TokenSource>(source: &mut S, skipped: KindSet) -> Held
+fn next_kept<S: TokenSource>(source: &mut S, skipped: KindSet) -> Result<Next, Fault>
     ensures tokens { with_held result (without skipped (S.TokenSource.tokens source.new)) ≡ without skipped (S.TokenSource.tokens source.old) }
     ensures ending { held_ending result (S.TokenSource.ending source.new) ≡ S.TokenSource.ending source.old }
     ensures input { S.TokenSource.input source.new ≡ S.TokenSource.input source.old }
+    ensures fits { NextFits result }
 {
     loop {
         let next = source.look();
         let Ok(Next::Token(token)) = next else {
-            return Held::new(next);
+            return next;
         };
         let _ = source.take();
         if !skipped.has(token.kind) {
-            return Held::new(next);
+            return next;
         }
     }
 }
@@ -59,21 +60,16 @@ impl<S: TokenSource> TokenSource for Skipping<S> {
 
     ghost input = { λ s. S.TokenSource.input s.source };
 
-    ghost kinds = { λ s. layer_kinds s.held s.skipped (S.TokenSource.tokens s.source) (S.TokenSource.kinds s.source) };
+    ghost kinds = { λ s. layer_kinds s.held s.skipped (S.TokenSource.tokens s.source) s.fits (S.TokenSource.kinds s.source) };
 
     fn look(&self) -> Result<Next, Fault> {
-        self.held.next()
+        self.held
     }
 
     fn take(&mut self) -> Result<Token, NothingLeft> {
-        match self.held {
-            Held::Token(held) => {
-                self.held = next_kept(&mut self.source, self.skipped);
-                Ok(held.token())
-            }
-            Held::End(place) => Err(NothingLeft { place }),
-            Held::Fault(fault) => Err(NothingLeft { place: fault.place }),
-        }
+        let token = first(self.held)?;
+        self.held = next_kept(&mut self.source, self.skipped);
+        Ok(token)
     }
 }
 

@@ -1,12 +1,13 @@
 // What every source of tokens promises.
-ghost use Rattle.std.specs.Prelude.{◌≡◌, ℕ, List};
+ghost use Rattle.std.specs.Prelude.{◌≡◌, ℕ, List, Ok, MatchResult};
 ghost use Rattle.std.specs.Option.{option_map};
 ghost use Rattle.std.specs.List.{AllByRecursion};
 ghost use Rattle.scanning.specs.Scan.{KindFits};
-ghost use Rattle.tokens.specs.Sources.{looked, taken, told, left, SameIfNone};
+ghost use Rattle.tokens.specs.Sources.{looked, taken, told, left, SameIfNone, EndsAt};
 ghost use Rattle.lexer.specs.Parts.{part_of};
 ghost use Rattle.token.specs.declared.token.Token.{Token as TokenOf};
 ghost use Rattle.token.specs.declared.token.Ending.{Ending as EndingOf};
+ghost use Rattle.token.specs.declared.token.Next.TheVariants as next_is;
 
 use token::{Fault, Next, NothingLeft, Token};
 
@@ -40,4 +41,15 @@ pub trait WithText: TokenSource {
     // A part of the text, or none where the token reaches past it.
     fn bytes(&self, token: Token) -> Option<&[u8]>
         ensures { option_map (λ x. x.now) result ≡ part_of (Self.TokenSource.input self.now) token.place token.length };
+}
+
+// What a take answers where this comes next.
+pub(crate) fn first(next: Result<Next, Fault>) -> Result<Token, NothingLeft>
+    ensures { MatchResult result (λ t. next ≡ Ok (next_is.Token t)) (EndsAt next) }
+{
+    match next {
+        Ok(Next::Token(token)) => Ok(token),
+        Ok(Next::End(place)) => Err(NothingLeft { place }),
+        Err(fault) => Err(NothingLeft { place: fault.place }),
+    }
 }

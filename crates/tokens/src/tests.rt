@@ -7,7 +7,7 @@ use kindset::KindSet;
 use lexer::{Spelling, Vocabulary};
 use std::process::Abort;
 use std::test::Fail;
-use token::{Ending, Fault, FaultCode, Next, Token};
+use token::{Ending, Fault, FaultCode, Next, NothingLeft, Token, TooLong};
 
 // Kinds 1 to 9, and two entries that reach past the text.
 static SPELLINGS: [Spelling; 11] = [
@@ -57,7 +57,7 @@ static SPELLINGS: [Spelling; 11] = [
     },
 ];
 
-fn vocabulary() -> Vocabulary<'static, 'static> {
+fn vocabulary() -> Vocabulary<'static> {
     Vocabulary {
         text: b"\"copy\" WORD NUMBER STRING \";\" \"->\" \"-\" \">\" \"+=\"",
         kinds: &SPELLINGS,
@@ -204,44 +204,45 @@ static CASES: [Case; 26] = [
     },
 ];
 
-// Takes a token of that kind, place and length.
+// The look tells the token, again and again, and the take answers it.
 fn takes<S: TokenSource>(rt: &impl Abort, source: &mut S, token: Token) {
     assert_eq!(rt; source.look(), Ok(Next::Token(token)));
     assert_eq!(rt; source.look(), Ok(Next::Token(token)));
-    assert_eq!(rt; source.take().ok(), Some(token));
+    assert_eq!(rt; source.take(), Ok(token));
 }
 
 // Stands at its ending, and stays there.
-fn ends<S: TokenSource>(rt: &impl Abort, source: &mut S, ending: Ending) -> Result<(), Fail> {
+fn ends<S: TokenSource>(rt: &impl Abort, source: &mut S, ending: Ending) {
     let (next, place) = match ending {
         Ending::End(place) => (Ok(Next::End(place)), place),
         Ending::Fault(fault) => (Err(fault), fault.place),
     };
     assert_eq!(rt; source.look(), next);
-    match source.take() {
-        Ok(_) => return Err(Fail::new("a token after the ending")),
-        Err(refusal) => assert_eq!(rt; refusal.place, place),
-    }
+    assert_eq!(rt; source.take(), Err(NothingLeft { place }));
     assert_eq!(rt; source.look(), next);
-    Ok(())
 }
 
 fn is_cut_so(rt: &impl Abort, case: &Case) -> Result<(), Fail> {
     let mut source = TextSource::new(case.text, vocabulary())?;
     let mut place: usize = 0;
-    for (kind, length) in case.tokens {
-        let token = Token {
-            kind: *kind,
-            place,
-            length: *length,
-        };
-        takes(rt, &mut source, token);
-        place = place.saturating_add(*length);
+    for &(kind, length) in case.tokens {
+        takes(
+            rt,
+            &mut source,
+            Token {
+                kind,
+                place,
+                length,
+            },
+        );
+        place = place.saturating_add(length);
     }
-    match case.fault {
-        Some(code) => ends(rt, &mut source, Ending::Fault(Fault { code, place })),
-        None => ends(rt, &mut source, Ending::End(place)),
-    }
+    let ending = match case.fault {
+        Some(code) => Ending::Fault(Fault { code, place }),
+        None => Ending::End(place),
+    };
+    ends(rt, &mut source, ending);
+    Ok(())
 }
 
 #[test]
@@ -252,23 +253,21 @@ fn texts(rt: HostRuntime) -> Result<(), Fail> {
     Ok(())
 }
 
-fn first(text: &[u8]) -> Result<Next, Fault> {
-    match TextSource::new(text, vocabulary()) {
-        Ok(source) => source.look(),
-        Err(refusal) => Ok(Next::End(refusal.limit)),
-    }
+// What comes first in a text, if it is short enough.
+fn first(text: &[u8]) -> Result<Result<Next, Fault>, TooLong> {
+    Ok(TextSource::new(text, vocabulary())?.look())
 }
 
-fn token(kind: u8, length: usize) -> Result<Next, Fault> {
-    Ok(Next::Token(Token {
+fn token(kind: u8, length: usize) -> Result<Result<Next, Fault>, TooLong> {
+    Ok(Ok(Next::Token(Token {
         kind,
         place: 0,
         length,
-    }))
+    })))
 }
 
-fn fault(code: FaultCode) -> Result<Next, Fault> {
-    Err(Fault { code, place: 0 })
+fn fault(code: FaultCode) -> Result<Result<Next, Fault>, TooLong> {
+    Ok(Err(Fault { code, place: 0 }))
 }
 
 #[test]
@@ -288,106 +287,70 @@ fn lengths(rt: HostRuntime) {
     string[255] = b'"';
     assert_eq!(rt; first(&string), fault(FaultCode::Oversized));
     assert_eq!(rt; first(&[b' '; 32768]), token(121, 32768));
-    assert_eq!(rt; first(&[b' '; 32769]), Ok(Next::End(32768)));
+    assert_eq!(rt; first(&[b' '; 32769]), Err(TooLong { limit: 32768 }));
+}
+
+// The token of a stored kind.
+fn stored(kind: u8, place: usize) -> Token {
+    Token {
+        kind,
+        place,
+        length: 1,
+    }
+}
+
+fn out_of_range(place: usize) -> Ending {
+    Ending::Fault(Fault {
+        code: FaultCode::OutOfRange,
+        place,
+    })
 }
 
 #[test]
-fn stored_kinds(rt: HostRuntime) -> Result<(), Fail> {
+fn stored_kinds(rt: HostRuntime) {
     let mut source = ListSource::new(&[1, 122, 0, 7]);
-    takes(
-        &rt,
-        &mut source,
-        Token {
-            kind: 1,
-            place: 0,
-            length: 1,
-        },
-    );
-    takes(
-        &rt,
-        &mut source,
-        Token {
-            kind: 122,
-            place: 1,
-            length: 1,
-        },
-    );
-    let code = FaultCode::OutOfRange;
-    ends(&rt, &mut source, Ending::Fault(Fault { code, place: 2 }))
+    takes(&rt, &mut source, stored(1, 0));
+    takes(&rt, &mut source, stored(122, 1));
+    ends(&rt, &mut source, out_of_range(2));
 }
 
 #[test]
-fn a_stored_123(rt: HostRuntime) -> Result<(), Fail> {
+fn a_stored_123(rt: HostRuntime) {
     let mut source = ListSource::new(&[123]);
-    let code = FaultCode::OutOfRange;
-    ends(&rt, &mut source, Ending::Fault(Fault { code, place: 0 }))
+    ends(&rt, &mut source, out_of_range(0));
 }
 
 #[test]
-fn skipped_kinds(rt: HostRuntime) -> Result<(), Fail> {
-    let stored = ListSource::new(&[3, 1, 3, 3, 2, 3]);
-    let mut source = Skipping::new(stored, KindSet::empty().with(3));
-    takes(
-        &rt,
-        &mut source,
-        Token {
-            kind: 1,
-            place: 1,
-            length: 1,
-        },
-    );
-    takes(
-        &rt,
-        &mut source,
-        Token {
-            kind: 2,
-            place: 4,
-            length: 1,
-        },
-    );
-    ends(&rt, &mut source, Ending::End(6))
+fn skipped_kinds(rt: HostRuntime) {
+    let list = ListSource::new(&[3, 1, 3, 3, 2, 3]);
+    let mut source = Skipping::new(list, KindSet::empty().with(3));
+    takes(&rt, &mut source, stored(1, 1));
+    takes(&rt, &mut source, stored(2, 4));
+    ends(&rt, &mut source, Ending::End(6));
+}
+
+// A token of kind 1 anywhere.
+fn copy_at(place: usize, length: usize) -> Token {
+    Token {
+        kind: 1,
+        place,
+        length,
+    }
 }
 
 #[test]
 fn a_text_without_blanks(rt: HostRuntime) -> Result<(), Fail> {
     let mut source = layered(b"# x\n copy \t# y", vocabulary())?;
-    takes(
-        &rt,
-        &mut source,
-        Token {
-            kind: 1,
-            place: 5,
-            length: 4,
-        },
-    );
-    ends(&rt, &mut source, Ending::End(14))
+    takes(&rt, &mut source, copy_at(5, 4));
+    ends(&rt, &mut source, Ending::End(14));
+    Ok(())
 }
 
 #[test]
 fn bytes(rt: HostRuntime) -> Result<(), Fail> {
     let source = TextSource::new(b"copy", vocabulary())?;
-    let Some(part) = source.bytes(Token {
-        kind: 1,
-        place: 1,
-        length: 3,
-    }) else {
-        return Err(Fail::new("no bytes"));
-    };
-    assert!(rt; part == b"opy".as_slice());
-    assert!(rt;
-        source
-            .bytes(Token {
-                kind: 1,
-                place: 2,
-                length: 3,
-            })
-            .is_none()
-    );
-    let far = Token {
-        kind: 1,
-        place: 18446744073709551615,
-        length: 1,
-    };
-    assert!(rt; source.bytes(far).is_none());
+    assert_eq!(rt; source.bytes(copy_at(1, 3)), Some(b"opy".as_slice()));
+    assert_eq!(rt; source.bytes(copy_at(2, 3)), None);
+    assert_eq!(rt; source.bytes(copy_at(usize::MAX, 1)), None);
     Ok(())
 }

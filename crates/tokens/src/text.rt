@@ -1,13 +1,11 @@
 // The text source: a text cut into tokens, one ahead.
 ghost use Rattle.std.specs.Prelude.{◌≡◌, ◌≤◌, length, drop, MatchResult};
-ghost use Rattle.tokens.specs.Held.{with_held, held_ending};
-ghost use Rattle.tokens.specs.Meaning.{text_tokens, text_ending, text_kinds, Scans};
+ghost use Rattle.tokens.specs.Held.{with_held, held_ending, NextFits, next_fits_prop};
 ghost use Rattle.token.specs.Refusals.{IsTooLong};
 ghost use Rattle.scanning.specs.Scan.{scan_from};
 ghost use Rattle.lexer.specs.Vocabulary.{lexicon};
 
-use crate::held::{Held, HeldToken};
-use crate::source::{TokenSource, WithText};
+use crate::source::{TokenSource, WithText, first};
 use lexer::{Lexeme, Vocabulary, lex, part};
 use token::{Fault, Next, NothingLeft, Token, TooLong};
 
@@ -25,53 +23,57 @@ pub fn check_length(text: &[u8]) -> Result<(), TooLong>
 }
 
 // What comes next in a text, and the place from which on it is not lexed yet.
-#[derive(Clone, Copy)]
+#[derive(Clone, Copy, Debug)]
 struct Ahead {
-    held: Held,
+    next: Result<Next, Fault>,
     place: usize,
 }
 
 // A text and the vocabulary by which it is read. It holds its first token, or else the ending.
-#[derive(Drop)]
-pub struct TextSource<'s, 't, 'k> {
+#[derive(Debug, Drop)]
+pub struct TextSource<'s, 'g> {
     text: &'s [u8],
-    vocabulary: Vocabulary<'t, 'k>,
+    vocabulary: Vocabulary<'g>,
     ahead: Ahead,
+    ghost fits: { NextFits ahead.next } by { next_fits_prop ahead.next },
 }
 
 // Lexes one token at a place.
-fn lex_at(text: &[u8], place: usize, vocabulary: &Vocabulary<'_, '_>) -> Ahead
-    ensures tokens { with_held result.held (scan_from (lexicon vocabulary.now) (drop result.place text.now) result.place).tokens ≡ (scan_from (lexicon vocabulary.now) (drop place text.now) place).tokens }
-    ensures ending { held_ending result.held (scan_from (lexicon vocabulary.now) (drop result.place text.now) result.place).ending ≡ (scan_from (lexicon vocabulary.now) (drop place text.now) place).ending }
+fn lex_at(text: &[u8], place: usize, vocabulary: &Vocabulary<'_>) -> Ahead
+    ensures fits { NextFits result.next }
+    ensures tokens { with_held result.next (scan_from (lexicon vocabulary.now) (drop result.place text.now) result.place).tokens ≡ (scan_from (lexicon vocabulary.now) (drop place text.now) place).tokens }
+    ensures ending { held_ending result.next (scan_from (lexicon vocabulary.now) (drop result.place text.now) result.place).ending ≡ (scan_from (lexicon vocabulary.now) (drop place text.now) place).ending }
 {
     if place >= text.len() {
-        let held = Held::End(place);
-        return Ahead { held, place };
+        return Ahead {
+            next: Ok(Next::End(place)),
+            place,
+        };
     }
-    match lex(&text[place..], vocabulary) {
-        Ok(Lexeme { kind, length }) => {
-            let token = Token {
-                kind,
-                place,
-                length,
-            };
-            let held = Held::Token(HeldToken::new(token));
-            let place = place + length;
-            Ahead { held, place }
-        }
+    let Lexeme { kind, length } = match lex(&text[place..], vocabulary) {
+        Ok(lexeme) => lexeme,
         Err(code) => {
-            let held = Held::Fault(Fault { code, place });
-            Ahead { held, place }
+            return Ahead {
+                next: Err(Fault { code, place }),
+                place,
+            };
         }
+    };
+    Ahead {
+        next: Ok(Next::Token(Token {
+            kind,
+            place,
+            length,
+        })),
+        place: place + length,
     }
 }
 
-impl<'s, 't, 'k> TextSource<'s, 't, 'k> {
+impl<'s, 'g> TextSource<'s, 'g> {
+    ghost use Rattle.tokens.specs.Meaning.{Scans};
+
     // The source of a text, refused exactly where the text is too long.
-    pub fn new(
-        text: &'s [u8],
-        vocabulary: Vocabulary<'t, 'k>,
-    ) -> Result<TextSource<'s, 't, 'k>, TooLong>
+    pub fn new(text: &'s [u8], vocabulary: Vocabulary<'g>) -> Result<TextSource<'s, 'g>, TooLong>
         ensures { MatchResult result (Scans (lexicon vocabulary.entry) text.now) (IsTooLong text.now) }
     {
         check_length(text)?;
@@ -84,7 +86,9 @@ impl<'s, 't, 'k> TextSource<'s, 't, 'k> {
     }
 }
 
-impl TokenSource for TextSource<'_, '_, '_> {
+impl TokenSource for TextSource<'_, '_> {
+    ghost use Rattle.tokens.specs.Meaning.{text_tokens, text_ending, text_kinds};
+
     ghost tokens = { text_tokens };
 
     ghost ending = { text_ending };
@@ -94,22 +98,17 @@ impl TokenSource for TextSource<'_, '_, '_> {
     ghost kinds = { text_kinds };
 
     fn look(&self) -> Result<Next, Fault> {
-        self.ahead.held.next()
+        self.ahead.next
     }
 
     fn take(&mut self) -> Result<Token, NothingLeft> {
-        match self.ahead.held {
-            Held::Token(held) => {
-                self.ahead = lex_at(self.text, self.ahead.place, &self.vocabulary);
-                Ok(held.token())
-            }
-            Held::End(place) => Err(NothingLeft { place }),
-            Held::Fault(fault) => Err(NothingLeft { place: fault.place }),
-        }
+        let token = first(self.ahead.next)?;
+        self.ahead = lex_at(self.text, self.ahead.place, &self.vocabulary);
+        Ok(token)
     }
 }
 
-impl WithText for TextSource<'_, '_, '_> {
+impl WithText for TextSource<'_, '_> {
     fn bytes(&self, token: Token) -> Option<&[u8]> {
         part(self.text, token.place, token.length)
     }

@@ -8,12 +8,14 @@ invariant-loop-token g l =
     let m = g.S.TokenSource in
     let was = m.tokens l.initial.source in
     let left = m.tokens l.source in
-    (l.tokens + length left ≡ length was)
-    × (l.words + how_many 1 left ≡ how_many 1 was)
-    × (l.strings + how_many 2 left ≡ how_many 2 was)
-    × (m.ending l.source ≡ m.ending l.initial.source)
-    × (l.words ≤ l.tokens)
-    × (l.strings ≤ l.tokens)
+    record {
+      tokens : l.tokens + length left ≡ length was;
+      words : l.words + how_many 1 left ≡ how_many 1 was;
+      strings : l.strings + how_many 2 left ≡ how_many 2 was;
+      ending : m.ending l.source ≡ m.ending l.initial.source;
+      fewer_words : l.words ≤ l.tokens;
+      fewer_strings : l.strings ≤ l.tokens;
+    }
 
 abbrev pub decreases-loop-token : goal.decreases-loop-token
 decreases-loop-token g l = length (g.S.TokenSource.tokens l.source)

@@ -1,5 +1,5 @@
 use Rattle.std.proofs.Common.{◌≡◌, refl, subst, arith, rules}
-use Rattle.grammar.specs.Parts.{reader, forest_of}
+use Rattle.grammar.specs.Parts.{Forest, reader}
 use Rattle.grammar.specs.Reader.{ItemTold, NodeRead}
 use Rattle.grammar.specs.declared.piece.Piece.TheVariants.{Bar}
 use Rattle.grammar.proofs.Cycle.{no_branch_yet, low_high, high_within, bar_first, branch_more, branch_unclosed, all_closed, depth_fits}
@@ -9,67 +9,67 @@ use Rattle.grammar.proofs.Sequences.{no_item_yet, item_more, arrow_unread, group
 use Rattle.grammar.proofs.parser.Parser.+branches_item_sequence.Goals as goal
 
 pub branches-loop-mark-init : goal.branches-loop-mark-init
-branches-loop-mark-init t c = no_branch_yet c.args.depth (reader c.args.self.now c.args.names.now c.args.kinds.now c.args.nodes.now) c.requires.0
+branches-loop-mark-init t c = no_branch_yet c.args.depth (reader c.args.self.now) c.requires.0
 
 pub branches-end-requires : goal.branches-end-requires
 branches-end-requires t c =
-    let r = reader c.args.self.now c.args.names.now c.args.kinds.now c.args.nodes.now in
-    let m = reader c.loop-mark.self c.loop-mark.names c.loop-mark.kinds c.loop-mark.nodes in
-    let n = reader c.sequence.new.self c.sequence.new.names c.sequence.new.kinds c.sequence.new.nodes in
+    let r = reader c.args.self.now in
+    let m = reader c.loop-mark.self in
+    let n = reader c.sequence.new.self in
     let q = c.in_ok-mark.ensures in
     let other : c.in_ok-mark.mark.piece ≡ Bar → ⊥ = search rules in
-    (q.on.kept.sound.healthy, q.first, q.ends, other, low_high c.args.depth r m n c.loop-mark.invariant c.in_ok-mark.mark q c.waiting-from.result c.waiting-begin.result c.waiting-from.ensures c.waiting-begin.ensures, high_within c.args.depth r m n c.loop-mark.invariant c.in_ok-mark.mark q c.waiting-from.result c.waiting-begin.result c.waiting-from.ensures c.waiting-begin.ensures)
+    (q.on.kept.sound, q.first, q.ends, other, low_high c.args.depth r m n c.loop-mark.invariant c.in_ok-mark.mark q c.len-from.result c.len-begin.result c.len-from.ensures.value c.len-begin.ensures.value, high_within c.args.depth r m n c.loop-mark.invariant c.in_ok-mark.mark q c.len-from.result c.len-begin.result c.len-from.ensures.value c.len-begin.ensures.value)
 
 pub branches-returns-then-ne : goal.branches-returns-then-ne
 branches-returns-then-ne t c =
-    all_closed c.args.depth (reader c.args.self.now c.args.names.now c.args.kinds.now c.args.nodes.now) (reader c.loop-mark.self c.loop-mark.names c.loop-mark.kinds c.loop-mark.nodes) (reader c.sequence.new.self c.sequence.new.names c.sequence.new.kinds c.sequence.new.nodes) c.loop-mark.invariant c.in_ok-mark.mark c.in_ok-mark.ensures c.waiting-from.result c.waiting-begin.result c.waiting-from.ensures c.waiting-begin.ensures c.args.closing c.requires.1 (reader c.end.new.self c.sequence.new.names c.sequence.new.kinds c.end.new.nodes) c.end.result (λ k d. c.end.ensures c.sequence.new.names c.sequence.new.kinds k c.in_ok-mark.ensures.on.kept.sound d)
+    all_closed c.args.depth (reader c.args.self.now) (reader c.loop-mark.self) (reader c.sequence.new.self) c.loop-mark.invariant c.in_ok-mark.mark c.in_ok-mark.ensures c.len-from.result c.len-begin.result c.len-from.ensures.value c.len-begin.ensures.value c.args.closing c.requires.1 (reader c.end.new.self) c.end.result (λ k d. c.end.ensures k d)
 
 pub branches-next_branch-requires : goal.branches-next_branch-requires
 branches-next_branch-requires t c =
-    let r = reader c.args.self.now c.args.names.now c.args.kinds.now c.args.nodes.now in
-    let m = reader c.loop-mark.self c.loop-mark.names c.loop-mark.kinds c.loop-mark.nodes in
-    let n = reader c.sequence.new.self c.sequence.new.names c.sequence.new.kinds c.sequence.new.nodes in
+    let r = reader c.args.self.now in
+    let m = reader c.loop-mark.self in
+    let n = reader c.sequence.new.self in
     let q = c.in_ok-mark.ensures in
     let same : c.in_ok-mark.mark.piece ≡ Bar = search rules in
-    (q.on.kept.sound.healthy, bar_first c.args.depth r m n c.loop-mark.invariant c.in_ok-mark.mark q c.waiting-from.result c.waiting-begin.result c.waiting-from.ensures c.waiting-begin.ensures same, high_within c.args.depth r m n c.loop-mark.invariant c.in_ok-mark.mark q c.waiting-from.result c.waiting-begin.result c.waiting-from.ensures c.waiting-begin.ensures)
+    (q.on.kept.sound, bar_first c.args.depth r m n c.loop-mark.invariant c.in_ok-mark.mark q c.len-from.result c.len-begin.result c.len-from.ensures.value c.len-begin.ensures.value same, high_within c.args.depth r m n c.loop-mark.invariant c.in_ok-mark.mark q c.len-from.result c.len-begin.result c.len-from.ensures.value c.len-begin.ensures.value)
 
 pub branches-loop-mark-preserved : goal.branches-loop-mark-preserved
 branches-loop-mark-preserved t c =
-    branch_more c.args.depth (reader c.args.self.now c.args.names.now c.args.kinds.now c.args.nodes.now) (reader c.loop-mark.self c.loop-mark.names c.loop-mark.kinds c.loop-mark.nodes) (reader c.sequence.new.self c.sequence.new.names c.sequence.new.kinds c.sequence.new.nodes) c.loop-mark.invariant c.in_ok-mark.mark c.in_ok-mark.ensures c.waiting-from.result c.waiting-begin.result c.waiting-from.ensures c.waiting-begin.ensures (depth_fits c.args.closing c.args.depth c.requires.1) (reader c.next_branch.new.self c.sequence.new.names c.sequence.new.kinds c.next_branch.new.nodes) (c.in_ok-next_branch.ensures c.sequence.new.names c.sequence.new.kinds c.in_ok-mark.ensures.on.kept.sound)
+    branch_more c.args.depth (reader c.args.self.now) (reader c.loop-mark.self) (reader c.sequence.new.self) c.loop-mark.invariant c.in_ok-mark.mark c.in_ok-mark.ensures c.len-from.result c.len-begin.result c.len-from.ensures.value c.len-begin.ensures.value (depth_fits c.args.closing c.args.depth c.requires.1) (reader c.next_branch.new.self) c.in_ok-next_branch.ensures
 
 pub branches-loop-mark-smaller : goal.branches-loop-mark-smaller
 branches-loop-mark-smaller t c =
     let q = c.in_ok-mark.ensures in
-    let h = c.in_ok-next_branch.ensures c.sequence.new.names c.sequence.new.kinds q.on.kept.sound in
+    let h = c.in_ok-next_branch.ensures in
     omega (arith, h.shorter, q.on.no_longer)
 
 pub branches-returns-in_err-next_branch : goal.branches-returns-in_err-next_branch
 branches-returns-in_err-next_branch t c =
     passed_on c.from_residual-in_err-next_branch.result c.in_err-next_branch.field-0.0 _ _ c.from_residual-in_err-next_branch.ensures.1
-    (branch_unclosed c.args.depth (reader c.args.self.now c.args.names.now c.args.kinds.now c.args.nodes.now) (reader c.loop-mark.self c.loop-mark.names c.loop-mark.kinds c.loop-mark.nodes) (reader c.sequence.new.self c.sequence.new.names c.sequence.new.kinds c.sequence.new.nodes) c.loop-mark.invariant c.in_ok-mark.mark c.in_ok-mark.ensures c.waiting-from.result c.waiting-begin.result c.waiting-from.ensures c.waiting-begin.ensures c.args.closing c.requires.1 (reader c.next_branch.new.self c.sequence.new.names c.sequence.new.kinds c.next_branch.new.nodes) c.in_err-next_branch.field-0.0 (c.in_err-next_branch.ensures c.sequence.new.names c.sequence.new.kinds c.in_ok-mark.ensures.on.kept.sound))
+    (branch_unclosed c.args.depth (reader c.args.self.now) (reader c.loop-mark.self) (reader c.sequence.new.self) c.loop-mark.invariant c.in_ok-mark.mark c.in_ok-mark.ensures c.len-from.result c.len-begin.result c.len-from.ensures.value c.len-begin.ensures.value c.args.closing c.requires.1 (reader c.next_branch.new.self) c.in_err-next_branch.field-0.0 c.in_err-next_branch.ensures)
 
 pub item-returns-then-depth-eq-DEPTH : goal.item-returns-then-depth-eq-DEPTH
-item-returns-then-depth-eq-DEPTH t c = group_too_deep c.args.depth (reader c.args.self.now c.args.names.now c.args.kinds.now c.args.nodes.now) c.in_ok-word.word c.in_ok-word.ensures c.in-Opening.bracket c.in-Opening.is c.if-depth-eq-DEPTH.true
+item-returns-then-depth-eq-DEPTH t c = group_too_deep c.args.depth (reader c.args.self.now) c.in_ok-word.word c.in_ok-word.ensures c.in-Opening.bracket c.in-Opening.is c.if-depth-eq-DEPTH.true
 
 pub item-returns-in_err-node-in-Opening : goal.item-returns-in_err-node-in-Opening
 item-returns-in_err-node-in-Opening t c =
     passed_on c.from_residual-in_err-node-in-Opening.result c.in_err-node-in-Opening.field-0.0 _ _ c.from_residual-in_err-node-in-Opening.ensures.1
-    (group_unread c.args.depth (reader c.args.self.now c.args.names.now c.args.kinds.now c.args.nodes.now) c.in_ok-word.word c.in_ok-word.ensures c.in-Opening.bracket c.in-Opening.is c.requires.0 (omega arith) c.advance.new.self c.advance.ensures (reader c.branches.new.self c.branches.new.names c.branches.new.kinds c.branches.new.nodes) c.in_err-node-in-Opening.field-0.0 c.in_err-node-in-Opening.ensures)
+    (group_unread c.args.depth (reader c.args.self.now) c.in_ok-word.word c.in_ok-word.ensures c.in-Opening.bracket c.in-Opening.is c.requires.0 (omega arith) c.advance.new.self c.advance.ensures (reader c.branches.new.self) c.in_err-node-in-Opening.field-0.0 c.in_err-node-in-Opening.ensures)
 
 pub item-returns-in-Arrow : goal.item-returns-in-Arrow
-item-returns-in-Arrow t c = arrow_unread c.args.depth (reader c.args.self.now c.args.names.now c.args.kinds.now c.args.nodes.now) c.in_ok-word.word c.in_ok-word.ensures c.in-Arrow.is
+item-returns-in-Arrow t c = arrow_unread c.args.depth (reader c.args.self.now) c.in_ok-word.word c.in_ok-word.ensures c.in-Arrow.is
 
 pub item-returns-in_ok-node-in-Opening : goal.item-returns-in_ok-node-in-Opening
 item-returns-in_ok-node-in-Opening t c =
-    group_read c.args.depth (reader c.args.self.now c.args.names.now c.args.kinds.now c.args.nodes.now) c.in_ok-word.word c.in_ok-word.ensures c.in-Opening.bracket c.in-Opening.is c.requires.0 (omega arith) c.advance.new.self c.advance.ensures (reader c.branches.new.self c.branches.new.names c.branches.new.kinds c.branches.new.nodes) c.in_ok-node-in-Opening.node c.in_ok-node-in-Opening.ensures
+    group_read c.args.depth (reader c.args.self.now) c.in_ok-word.word c.in_ok-word.ensures c.in-Opening.bracket c.in-Opening.is c.requires.0 (omega arith) c.advance.new.self c.advance.ensures (reader c.branches.new.self) c.in_ok-node-in-Opening.node c.in_ok-node-in-Opening.ensures
 
 pub sequence-loop-node-init : goal.sequence-loop-node-init
-sequence-loop-node-init t c = no_item_yet c.args.depth (reader c.args.self.now c.args.names.now c.args.kinds.now c.args.nodes.now) c.requires.0
+sequence-loop-node-init t c = no_item_yet c.args.depth (reader c.args.self.now) c.requires.0
 
 pub sequence-loop-node-preserved : goal.sequence-loop-node-preserved
 sequence-loop-node-preserved t c =
-    let m = reader c.loop-node.self c.loop-node.names c.loop-node.kinds c.loop-node.nodes in
-    let n = reader c.item.new.self c.item.new.names c.item.new.kinds c.item.new.nodes in
-    let after = forest_of c.item.new.nodes c.push.new.self in
+    let m = reader c.loop-node.self in
+    let n = reader c.item.new.self in
+    let after : Forest = record { nodes = c.item.new.self.nodes.now; roots = c.push.new.self.items } in
     let h : NodeRead c.args.depth m n c.in-Node.node = subst (ItemTold c.args.depth m n) c.in-Node.is c.in_ok-node.ensures in
-    item_more c.args.depth (reader c.args.self.now c.args.names.now c.args.kinds.now c.args.nodes.now) m n after c.in-Node.node c.loop-node.invariant h (pushed_root c.in-Node.node n.forest after h.kept.sound.healthy h.own h.small refl c.push.ensures)
+    item_more c.args.depth (reader c.args.self.now) m n after c.in-Node.node c.loop-node.invariant h (pushed_root c.in-Node.node n.forest after h.kept.sound.healthy h.own h.small refl c.push.ensures.items)

@@ -5,11 +5,11 @@ use Rattle.grammar.proofs.Ruling.{arrow_misplaced, arrow_read}
 use Rattle.grammar.proofs.parser.Parser.arrow.Goals as goal
 
 pub returns-then-ne : goal.returns-then-ne
-returns-then-ne c = λ names kinds nodes s.
+returns-then-ne c =
     let other : c.in_ok-word.word.piece ≡ Arrow → ⊥ = search rules in
-    arrow_misplaced (reader c.args.self.now names kinds nodes) c.in_ok-word.word c.in_ok-word.ensures other
+    arrow_misplaced (reader c.args.self.now) c.in_ok-word.word c.in_ok-word.ensures other
 
 pub returns : goal.returns
-returns c = λ names kinds nodes s.
+returns c =
     let same : c.in_ok-word.word.piece ≡ Arrow = search rules in
-    arrow_read (reader c.args.self.now names kinds nodes) c.in_ok-word.word c.in_ok-word.ensures s same c.advance.new.self c.advance.ensures
+    arrow_read (reader c.args.self.now) c.in_ok-word.word c.in_ok-word.ensures c.requires same c.advance.new.self c.advance.ensures

@@ -5,7 +5,7 @@ use Rattle.grammar.proofs.Ruling.{RulesOn}
 use Rattle.grammar.proofs.parser.Parser.rules.Given as goal
 
 abbrev pub invariant-loop-word : goal.invariant-loop-word
-invariant-loop-word l = RulesOn (reader l.initial.self l.initial.names l.initial.kinds l.initial.nodes) (reader l.self l.names l.kinds l.nodes)
+invariant-loop-word l = RulesOn (reader l.initial.self) (reader l.self)
 
 abbrev pub decreases-loop-word : goal.decreases-loop-word
-decreases-loop-word l = length (tokens l.self.words)
+decreases-loop-word l = length (tokens l.self.words.now)

@@ -1,26 +1,26 @@
-use Rattle.std.proofs.Common.{arith}
-use Rattle.grammar.specs.Parts.{reader, forest_of}
+use Rattle.std.proofs.Common.{arith, refl}
+use Rattle.grammar.specs.Parts.{reader, forest}
 use Rattle.grammar.specs.declared.refusal.Refusal.TheVariants.{NodesFull}
 use Rattle.grammar.proofs.Counted.{number_small}
 use Rattle.grammar.proofs.Finishing.{passed_on}
 use Rattle.grammar.proofs.Items.{token_over, token_nodes_over, token_read}
+use Rattle.grammar.proofs.Rooting.{made_one, made_none}
 use Rattle.grammar.proofs.parser.Parser.token_item.Goals as goal
 
 pub returns-in_default : goal.returns-in_default
-returns-in_default c = λ names depth s d. token_over (reader c.args.self.now names c.args.kinds.now c.args.nodes.now) s c.args.word c.requires.0 c.number.new.self c.in_default.ensures.told depth d
+returns-in_default c = λ depth d. token_over (reader c.args.self.now) c.requires.1 c.args.word c.requires.0 c.number.new.self _ c.in_default.ensures.told depth d
 
 pub overflow_cast-kind : goal.overflow_cast-kind
-overflow_cast-kind c = let small = number_small _ _ _ c.args.kinds.now c.number.new.self c.in-Ok.kind 120 c.in-Ok.ensures.told c.requires.1 in omega arith
+overflow_cast-kind c = let small = number_small _ _ _ _ c.args.self.now.kinds.now c.number.new.self c.in-Ok.kind c.in-Ok.ensures.told in omega arith
 
 pub overflow_add-kind : goal.overflow_add-kind
-overflow_add-kind c = let small = number_small _ _ _ c.args.kinds.now c.number.new.self c.in-Ok.kind 120 c.in-Ok.ensures.told c.requires.1 in omega arith
+overflow_add-kind c = let small = number_small _ _ _ _ c.args.self.now.kinds.now c.number.new.self c.in-Ok.kind c.in-Ok.ensures.told in omega arith
 
 pub returns-in_err-node : goal.returns-in_err-node
-returns-in_err-node c = λ names depth s d.
-    let w = c.args.self.now.waiting in
-    passed_on c.from_residual.result (NodesFull c.in_err-node.field-0.0.limit) _ _ c.from_residual.ensures.1 (token_nodes_over (reader c.args.self.now names c.args.kinds.now c.args.nodes.now) s c.args.word c.requires.0 c.number.new.self c.in-Ok.kind c.in-Ok.ensures.told c.number.ensures.loan (forest_of c.make.new.nodes w) c.in_err-node.field-0.0 (c.in_err-node.ensures w s.healthy) depth d)
+returns-in_err-node c = λ depth d.
+    passed_on c.from_residual.result (NodesFull c.in_err-node.field-0.0.limit) _ _ c.from_residual.ensures.1
+    (token_nodes_over (reader c.args.self.now) c.requires.1 c.args.word c.requires.0 c.number.new.self c.in-Ok.kind c.in-Ok.ensures.told c.number.ensures.loan _ c.in_err-node.field-0.0 (made_none (forest c.args.self.now) _ c.in_err-node.field-0.0 c.in_err-node.ensures.told) depth d)
 
 pub returns : goal.returns
-returns c = λ names depth s d.
-    let w = c.args.self.now.waiting in
-    token_read (reader c.args.self.now names c.args.kinds.now c.args.nodes.now) s c.args.word c.requires.0 c.number.new.self c.in-Ok.kind c.in-Ok.ensures.told c.number.ensures.loan (forest_of c.make.new.nodes w) c.in_ok-node.node (c.in_ok-node.ensures w s.healthy) c.advance.new.self c.advance.ensures depth d
+returns c = λ depth d.
+    token_read (reader c.args.self.now) c.requires.1 c.args.word c.requires.0 c.number.new.self c.in-Ok.kind c.in-Ok.ensures.told c.number.ensures.loan _ c.in_ok-node.node (made_one _ _ _ (forest c.args.self.now) _ c.in_ok-node.node c.requires.1.healthy refl c.in_ok-node.ensures.told c.in_ok-node.ensures.loan) c.advance.new.self c.advance.ensures depth d
