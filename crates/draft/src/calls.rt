@@ -10,15 +10,15 @@ use lexer::Spelling;
 use tables::Name;
 use tree::Node;
 
-impl<'t, 'n, 'k, 'd> Draft<'t, 'n, 'k, 'd> {
+impl<'g> Draft<'g> {
     // The draft of a text that was judged, over the tables that judging filled.
     pub fn make(
-        text: &'t [u8],
-        names: &'n [Name],
-        kinds: &'k [Spelling],
-        nodes: &'d [Node],
+        text: &'g [u8],
+        names: &'g [Name],
+        kinds: &'g [Spelling],
+        nodes: &'g [Node],
         counts: Counts,
-    ) -> Draft<'t, 'n, 'k, 'd>
+    ) -> Draft<'g>
         requires { GrammarHeld text.now (lent names.now kinds.now nodes.now) counts }
         ensures text { result.text.now ≡ text.now }
         ensures tables { borrowed result ≡ lent names.now kinds.now nodes.now }
@@ -34,7 +34,7 @@ impl<'t, 'n, 'k, 'd> Draft<'t, 'n, 'k, 'd> {
     }
 }
 
-impl Draft<'_, '_, '_, '_> {
+impl Draft<'_> {
     // The text. Of every draft: its tables hold the one grammar that its text is.
     pub fn text(&self) -> &[u8]
         ensures value { result.now ≡ self.now.text.now }
@@ -58,20 +58,20 @@ impl Draft<'_, '_, '_, '_> {
     pub fn nodes(&self) -> &[Node]
         ensures { result.now ≡ (drafted self.now).nodes }
     {
-        &self.nodes[0..self.counts.nodes]
+        &self.nodes[..self.counts.nodes]
     }
 
     // The names, each by its number.
     pub fn names(&self) -> &[Name]
         ensures { result.now ≡ take self.now.counts.names self.now.names.now }
     {
-        &self.names[0..self.counts.names]
+        &self.names[..self.counts.names]
     }
 
     // Where the text spells the kinds, from kind 1 on.
     pub fn kinds(&self) -> &[Spelling]
         ensures { result.now ≡ take self.now.counts.kinds self.now.kinds.now }
     {
-        &self.kinds[0..self.counts.kinds]
+        &self.kinds[..self.counts.kinds]
     }
 }

@@ -15,7 +15,6 @@ pub mod Needed
 pub mod Proved
 pub mod Rest
 pub mod Roots
-pub mod Rows
 pub mod Rules
 pub mod Shaping
 pub mod Sound

@@ -4,7 +4,6 @@ pub mod Listing
 pub mod Meaning
 pub mod Numbering
 pub mod Reading
-pub mod Rows
 pub mod Shaped
 pub mod Standing
 pub mod Statements

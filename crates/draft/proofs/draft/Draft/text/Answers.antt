@@ -1,6 +1,8 @@
-use mathlib.Core.Path.{refl}
-use Rattle.draft.proofs.Held.{draft_held}
+use Rattle.draft.specs.Drafted.{borrowed}
+use Rattle.draft.proofs.Held.{read_is_held}
 use Rattle.draft.proofs.draft.Draft.text.Goals as goal
 
-pub returns : goal.returns
-returns c = record { value = refl; meaning = draft_held c.args.self.now }
+pub returns-clause-meaning : goal.returns-clause-meaning
+returns-clause-meaning c =
+    let d = c.args.self.now in
+    read_is_held d.text.now (borrowed d) d.counts d.reading
