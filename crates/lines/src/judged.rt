@@ -4,8 +4,11 @@ ghost use Rattle.lines.specs.GrammarLines.{told_text, sizes_text, grammar_line};
 ghost use Rattle.grammar.specs.Refusals.{numbered};
 
 use crate::output::Output;
-use grammar::{Counts, Refusal, ZERO_NAME, ZERO_NODE, ZERO_SPELLING, judge};
+use grammar::{Counts, Refusal, judge};
+use lexer::Spelling;
 use std::alloc::{AllocError, Global};
+use tables::{KINDS, NAMES, NODES, Name};
+use tree::Node;
 
 impl Output {
     // Why a grammar is refused: the refusal, and its code if it has one.
@@ -33,9 +36,9 @@ impl Output {
     fn judged(&mut self, text: &[u8]) -> Result<(), AllocError>
         ensures { OnOk result (self.new ≡ self.old ++ grammar_line text.now) }
     {
-        let mut names = [ZERO_NAME; 64];
-        let mut kinds = [ZERO_SPELLING; 120];
-        let mut nodes = [ZERO_NODE; 1024];
+        let mut names = [Name::default(); NAMES];
+        let mut kinds = [Spelling::default(); KINDS];
+        let mut nodes = [Node::default(); NODES];
         match judge(text, &mut names, &mut kinds, &mut nodes) {
             Ok(counts) => self.sizes(counts),
             Err(refusal) => self.told(refusal),
