@@ -7,8 +7,6 @@ use Rattle.grammar.specs.declared.piece.Piece.{Piece}
 use Rattle.grammar.specs.declared.piece.Piece.TheVariants as piece_is
 use Rattle.grammar.specs.declared.refusal.Refusal.{Refusal}
 use Rattle.grammar.specs.declared.refusal.Refusal.TheVariants as refusal_is
-use Rattle.grammar.specs.declared.words.Ahead.{Ahead}
-use Rattle.grammar.specs.declared.words.Ahead.TheVariants as ahead_is
 use Rattle.grammar.specs.declared.words.Word.{Word}
 use Rattle.grammar.specs.declared.words.Words.{Words}
 use Rattle.notation.specs.Tokens as notation
@@ -16,6 +14,8 @@ use Rattle.notation.specs.Tokens.{Spot, Token, Ending, end, fault}
 use Rattle.tables.specs.Meant.{spot_at}
 use Rattle.token.specs.Faults.{fault_number}
 use Rattle.token.specs.declared.token.Fault.{Fault}
+use Rattle.token.specs.declared.token.Next.{Next}
+use Rattle.token.specs.declared.token.Next.TheVariants as next_is
 use Rattle.tokens.specs.Layered.{layered_tokens, layered_ending}
 
 abbrev pub bracket : Bracket → notation.Bracket
@@ -54,9 +54,9 @@ rest_of (t ∷ ts) = ts
 abbrev pub WordTold : Words → Word → Type 0
 WordTold w x = tokens w ≡ word_token w.text.now x ∷ rest_of (tokens w)
 
-abbrev pub AheadTold : Words → Ahead → Type 0
-AheadTold w (ahead_is.Word x) = WordTold w x
-AheadTold w (ahead_is.End p) = (tokens w ≡ []) × (ending w ≡ end p)
+abbrev pub AheadTold : Words → Next Word → Type 0
+AheadTold w (next_is.Token x) = WordTold w x
+AheadTold w (next_is.End p) = (tokens w ≡ []) × (ending w ≡ end p)
 
 abbrev pub Stuck : Words → Fault → Type 0
 Stuck w f = (tokens w ≡ []) × (ending w ≡ fault f.place (fault_number f.code))

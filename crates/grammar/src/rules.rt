@@ -9,8 +9,9 @@ ghost use Rattle.tables.specs.Filling.{entries};
 use crate::parser::Parser;
 use crate::piece::Piece;
 use crate::refusal::Refusal;
-use crate::words::{Ahead, Word};
+use crate::words::Word;
 use tables::Name;
+use token::Next;
 use tree::NONE;
 
 impl Parser<'_, '_> {
@@ -81,8 +82,8 @@ impl Parser<'_, '_> {
     {
         loop {
             match self.words.ahead()? {
-                Ahead::Word(word) => self.rule(word)?,
-                Ahead::End(place) => return self.end_of_text(place),
+                Next::Token(word) => self.rule(word)?,
+                Next::End(place) => return self.end_of_text(place),
             }
         }
     }

@@ -16,13 +16,6 @@ pub(crate) struct Word {
     pub length: usize,
 }
 
-// What comes next: a token, or the end at a place.
-#[derive(Clone, Copy)]
-pub(crate) enum Ahead {
-    Word(Word),
-    End(usize),
-}
-
 // The source of a text, and the text.
 #[derive(Drop)]
 pub(crate) struct Words<'a> {
@@ -32,19 +25,19 @@ pub(crate) struct Words<'a> {
 
 impl Words<'_> {
     // The first token, or else the end.
-    pub(crate) fn ahead(&self) -> Result<Ahead, Fault>
+    pub(crate) fn ahead(&self) -> Result<Next<Word>, Fault>
         ensures { MatchResult result (AheadTold self.now) (λ f. Stuck self.now f) }
     {
         match self.source.look()? {
             Next::Token(token) => {
                 let piece = piece_of(clip(self.text, token.place, token.length));
-                Ok(Ahead::Word(Word {
+                Ok(Next::Token(Word {
                     piece,
                     place: token.place,
                     length: token.length,
                 }))
             }
-            Next::End(place) => Ok(Ahead::End(place)),
+            Next::End(place) => Ok(Next::End(place)),
         }
     }
 
@@ -53,8 +46,8 @@ impl Words<'_> {
         ensures { MatchResult result (WordTold self.now) (Halted self.now) }
     {
         match self.ahead()? {
-            Ahead::Word(word) => Ok(word),
-            Ahead::End(place) => Err(Refusal::Misplaced(place)),
+            Next::Token(word) => Ok(word),
+            Next::End(place) => Err(Refusal::Misplaced(place)),
         }
     }
 

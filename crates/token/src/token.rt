@@ -43,8 +43,8 @@ pub struct Fault {
 
 // What comes next in a source that has no fault there: a token, or the end at a place.
 #[derive(Clone, Copy, Debug, PartialEq, Eq)]
-pub enum Next {
-    Token(Token),
+pub enum Next<T = Token> {
+    Token(T),
     End(usize),
 }
 

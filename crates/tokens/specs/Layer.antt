@@ -20,10 +20,10 @@ abbrev pub without : KindSet → List Token → List Token
 without skipped ts = filter (keeps skipped) ts
 
 -- the law of kinds, for a source that holds its first token, and for the layer
-pub held_kinds : (n : Result Next Fault) (ts : List Token) → NextFits n → AllByRecursion KindFits ts → AllByRecursion KindFits (with_held n ts)
+pub held_kinds : (n : Result (Next Token) Fault) (ts : List Token) → NextFits n → AllByRecursion KindFits ts → AllByRecursion KindFits (with_held n ts)
 held_kinds (Ok (next_is.Token t)) ts f a = (f, a)
 held_kinds (Ok (next_is.End p)) ts f a = tt
 held_kinds (Err e) ts f a = tt
 
-pub layer_kinds : (n : Result Next Fault) (skipped : KindSet) (ts : List Token) → NextFits n → AllByRecursion KindFits ts → AllByRecursion KindFits (with_held n (without skipped ts))
+pub layer_kinds : (n : Result (Next Token) Fault) (skipped : KindSet) (ts : List Token) → NextFits n → AllByRecursion KindFits ts → AllByRecursion KindFits (with_held n (without skipped ts))
 layer_kinds n skipped ts f a = held_kinds n (without skipped ts) f (all_kept_by (keeps skipped) KindFits ts a)
