@@ -23,13 +23,12 @@ pub enum Piece {
 }
 
 // The piece that is written so.
+#[tactic(auto, using(std::proofs::lemmas::Slice::Eq::text_from_reads))]
 pub fn piece_of(bytes: &[u8]) -> Piece
     ensures { Pieced bytes.now result }
 {
     match bytes {
-        b"WORD" => Piece::ClassWord,
-        b"NUMBER" => Piece::ClassWord,
-        b"STRING" => Piece::ClassWord,
+        b"WORD" | b"NUMBER" | b"STRING" => Piece::ClassWord,
         b"->" => Piece::Arrow,
         b"|" => Piece::Bar,
         b";" => Piece::Semicolon,
