@@ -1,12 +1,13 @@
 -- Marks that end sequences and branches.
 use Rattle.std.proofs.Common.{◌≡◌, ℕ, ◌<◌, ◌≤◌, List, [], ◌∷◌, ◌++◌, map, length, take, drop, Some, None, Option, sym, refl, ap, ◌∙◌, arith, length-append}
-use Rattle.grammar.proofs.Items.{rest_shorter}
+use Rattle.grammar.proofs.Leaves.{rest_shorter}
 use Rattle.grammar.proofs.Moves.{fixed_same, fits, moved, fronted, tables_same}
 use Rattle.grammar.specs.Bodies.{closing_token, level_at, MarkFirst, BranchRead, BranchRefused, EndedGoes, EndedRefused, Closed, Unclosed}
 use Rattle.grammar.specs.Forest.{nodes_of, roots_of, place, Healthy, over_group, over_branches, BranchEnded, BranchFull, Finished, Unfinished}
-use Rattle.grammar.specs.Reader.{tokens_of, tables_of, fixed, Sound, Kept, standing_ready}
+use Rattle.grammar.specs.Reader.{tokens_of, tables_of, fixed, Kept, standing_ready}
+use Rattle.grammar.specs.Sound.{Sound}
 use Rattle.grammar.specs.Words.{bracket, rest_of, Advanced}
-use Rattle.grammar.specs.Parts.{Forest}
+use Rattle.grammar.specs.Trees.{Forest}
 use Rattle.grammar.specs.declared.piece.Bracket.{Bracket as BracketOf}
 use Rattle.grammar.specs.declared.piece.Bracket.TheVariants as bracket_is
 use Rattle.grammar.specs.Parts.{Reader}
@@ -54,7 +55,7 @@ pub closed_row : (b : BracketOf) (ended items : List ℕ) (T : Tables) → end_g
 closed_row b ended items T = ap (end_group (bracket b)) (level_row ended items T) ∙ group_row b T (over_branches ended items T.nodes)
 
 -- a forest that has changed, and a token that is gone
-module _ (r : Reader) (s : Sound r) (forest : Forest) (same_place : place forest.nodes ≡ place r.forest.nodes) where
+module _ (r : Reader) (s : Sound r.names r.kinds r.forest.nodes r.forest.roots) (forest : Forest) (same_place : place forest.nodes ≡ place r.forest.nodes) where
   abbrev halfway : Reader
   halfway = record { words = r.words; names = r.names; kinds = r.kinds; forest = forest; lenders = r.lenders }
 
@@ -94,7 +95,7 @@ ready_moved r q T U ts same t s =
     ap (λ f. run f.limits ready T ts f.ending) (sym same) ∙ ap (λ X. run (fixed q).limits ready X ts (fixed q).ending) t ∙ ap (λ x. run (fixed q).limits ready U x (fixed q).ending) s
 
 -- a bar
-module _ (r : Reader) (s : Sound r) (first : MarkFirst r.words bar) (begin : ℕ) where
+module _ (r : Reader) (s : Sound r.names r.kinds r.forest.nodes r.forest.roots) (first : MarkFirst r.words bar) (begin : ℕ) where
   abbrev items : List ℕ
   items = drop begin (roots_of r.forest)
 
@@ -129,7 +130,7 @@ module _ (r : Reader) (s : Sound r) (first : MarkFirst r.words bar) (begin : ℕ
   }
 
 -- the mark after branches
-module _ (r : Reader) (s : Sound r) (from begin : ℕ) where
+module _ (r : Reader) (s : Sound r.names r.kinds r.forest.nodes r.forest.roots) (from begin : ℕ) where
   abbrev level : Level
   level = level_at from begin (roots_of r.forest)
 

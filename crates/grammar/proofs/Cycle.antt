@@ -3,7 +3,8 @@ use Rattle.std.proofs.Common.{◌≡◌, ℕ, ◌≤◌, List, [], ◌∷◌, �
 use Rattle.std.proofs.lemmas.List.{append-nil, append_assoc, take_all, take-append-le, drop_all, drop-append-le}
 use Rattle.grammar.specs.Bodies.{MarkFirst, level_at, BranchRead, BranchRefused, FitsDepth, EndedGoes, EndedRefused, Closed, Unclosed, SequenceRead}
 use Rattle.grammar.specs.Forest.{roots_of}
-use Rattle.grammar.specs.Reader.{text_of, tokens_of, Sound, Kept, standing}
+use Rattle.grammar.specs.Reader.{text_of, tokens_of, Kept, standing}
+use Rattle.grammar.specs.Sound.{Sound}
 use Rattle.grammar.specs.Refusals.{RefusedAs}
 use Rattle.grammar.specs.Words.{bracket, piece_token, word_spot, rest_of}
 use Rattle.grammar.specs.declared.piece.Bracket.{Bracket as BracketOf}
@@ -23,7 +24,7 @@ pub record BranchesOn (depth : ℕ) (before after : Reader) : Type 0 where
   pub no_longer : length (tokens_of after) ≤ length (tokens_of before)
   pub goes : (bs : List Bracket) → length bs ≡ depth → (rule : ℕ) (outer : Levels bs) → standing before bs rule no_level outer ≡ standing after bs rule (record { ended = ended; items = [] }) outer
 
-pub no_branch_yet : (depth : ℕ) (r : Reader) → Sound r → BranchesOn depth r r
+pub no_branch_yet : (depth : ℕ) (r : Reader) → Sound r.names r.kinds r.forest.nodes r.forest.roots → BranchesOn depth r r
 no_branch_yet depth r s = record { kept = record { same = refl; sound = s }; ended = []; more = sym (append-nil (roots_of r.forest)); no_longer = omega arith; goes = λ bs deep rule outer. refl }
 
 pub kept_on : (r m n : Reader) → Kept r m → Kept m n → Kept r n

@@ -8,7 +8,8 @@ use Rattle.grammar.specs.Forest.{nodes_of, Clean}
 use Rattle.grammar.specs.Judged.{Lent, limits_of, held, Used, AsLong}
 use Rattle.grammar.specs.Notation.{notation_kinds}
 use Rattle.grammar.specs.Parts.{Reader}
-use Rattle.grammar.specs.Reader.{text_of, tokens_of, tables_of, fixed, zero_name, zero_spelling}
+use Rattle.grammar.specs.Reader.{text_of, tokens_of, tables_of, fixed}
+use Rattle.grammar.specs.Sound.{zero_name, zero_spelling}
 use Rattle.grammar.specs.Rules.{at_rule, HeadRefused, AllRead}
 use Rattle.grammar.specs.Source.{source_token, sorted, ending_meant, scanned, grammar_tokens, grammar_ending}
 use Rattle.grammar.specs.declared.refusal.Refusal.{Refusal}

@@ -9,7 +9,7 @@ use Rattle.tree.specs.declared.class.Class.{Class}
 use Rattle.tree.specs.declared.class.Class.TheVariants as class_is
 use Rattle.tree.specs.declared.node.Node.{Node}
 use Rattle.grammar.specs.Forest.{nodes_of, roots_of, over_group, over_branches, over_inside, grouped, Healthy, MadeOne, MadeNone, Reduced, Unreduced, BranchEnded, BranchFull, Bracketed, Unbracketed, Finished, Pushed, Unfinished}
-use Rattle.grammar.specs.Parts.{Forest}
+use Rattle.grammar.specs.Trees.{Forest}
 use Rattle.grammar.specs.declared.piece.Bracket.{Bracket}
 use Rattle.grammar.specs.declared.piece.Bracket.TheVariants as bracket_is
 

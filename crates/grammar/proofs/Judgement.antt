@@ -4,7 +4,7 @@ use Rattle.std.proofs.lemmas.Bool.{true≢false, false≢true}
 use Rattle.std.specs.Result.{is_err}
 use Rattle.grammar.specs.Filled.{outcome, Filled, WhyNot, Unfilled}
 use Rattle.grammar.specs.Judged.{Lent, lent, limits_of, held, AsLong, Accepted, RefusedFor, RefusedRight, Rejected}
-use Rattle.grammar.specs.Reader.{zero_name, zero_spelling}
+use Rattle.grammar.specs.Sound.{zero_name, zero_spelling}
 use Rattle.grammar.specs.Refusals.{RefusedAs}
 use Rattle.grammar.specs.Source.{grammar_tokens, grammar_ending}
 use Rattle.grammar.specs.declared.judging.Counts.{Counts}

@@ -4,11 +4,12 @@ mod Cycle
 mod Ending
 mod Filling
 mod Finishing
-mod Items
 mod Judgement
+mod Leaves
 mod Moves
 mod Rooting
 mod Ruling
 mod Sequences
 mod Sorted
+mod Soundness
 pub mod Spelled

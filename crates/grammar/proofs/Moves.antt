@@ -2,7 +2,8 @@
 use Rattle.std.proofs.Common.{◌≡◌, ℕ, min, List, ◌∷◌, sym, ap, ◌∙◌, subst, arith, length-take}
 use lib.ListN.{length-map}
 use Rattle.grammar.specs.Forest.{Place, place}
-use Rattle.grammar.specs.Reader.{text_of, tokens_of, tables_of, Fixed, fixed, Sound, standing}
+use Rattle.grammar.specs.Reader.{text_of, tokens_of, tables_of, Fixed, fixed, standing}
+use Rattle.grammar.specs.Sound.{Sound}
 use Rattle.grammar.specs.Words as words
 use Rattle.grammar.specs.Words.{Advanced}
 use Rattle.grammar.specs.declared.words.Words.{Words}
@@ -39,7 +40,7 @@ fixed_same r q text e names kinds nodes lenders =
     ∙ ap (λ x. fixed_by (text_of r) (words.ending r.words) (place r.names) (place r.kinds) (place r.forest.nodes) x) lenders
 
 -- the tables of a reader are within their limits
-pub fits : (r : Reader) → Sound r → Fits (fixed r).limits (tables_of r)
+pub fits : (r : Reader) → Sound r.names r.kinds r.forest.nodes r.forest.roots → Fits (fixed r).limits (tables_of r)
 fits r s = record {
   names = omega (arith, length-map (entries r.names) (name_meant (text_of r)), length-take r.names.count r.names.table.now, r.names.within, r.names.few);
   kinds = omega (arith, length-map (entries r.kinds) (kind_meant (text_of r)), length-take r.kinds.count r.kinds.table.now, r.kinds.within, r.kinds.few);

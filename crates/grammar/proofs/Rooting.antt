@@ -11,7 +11,7 @@ use Rattle.tables.specs.declared.full.Full.{Full}
 use Rattle.tree.specs.declared.class.Class.{Class}
 use Rattle.tree.specs.declared.class.Class.TheVariants.{Empty}
 use Rattle.grammar.specs.Forest.{nodes_of, roots_of, Place, place, Clean, Healthy, MadeOne, MadeNone, Pushed, Reduced, Unreduced}
-use Rattle.grammar.specs.Parts.{Forest}
+use Rattle.grammar.specs.Trees.{Forest}
 
 pub each_take : {X : Type 0} (P : X → Type 0) (n : ℕ) (xs : List X) → Each P xs → Each P (take n xs)
 each_take P zero xs h = tt
@@ -65,6 +65,19 @@ made_none before after e m = record { full = m.full; told = m.told; place = ap p
 pub made_told : (c : Class) (v f : ℕ) (before after : Forest) (r : Result ℕ Full) → Healthy before → roots_of after ≡ roots_of before → MatchResult r (NodeMade c v f before.nodes after.nodes) (IsFull before.nodes after.nodes) → after.nodes.table.ghost_name ≡ before.nodes.table.ghost_name → MatchResult r (MadeOne c v f before after) (MadeNone before after)
 made_told c v f before after (Ok n) well same m loan = made_one c v f before after n well same m loan
 made_told c v f before after (Err e) well same m loan = made_none before after e m
+
+-- nodes are no fewer after a call, whether it is refused or not
+module _ (c : Class) (v f : ℕ) (before after : Nodes) where
+  pub made_grows : (r : Result ℕ Full) → MatchResult r (NodeMade c v f before after) (IsFull before after) → length (entries before) ≤ length (entries after)
+  made_grows (Ok n) m = omega (arith, ap length m.nodes, length_add c v f (entries before))
+  made_grows (Err e) m = let same : length (entries after) ≡ length (entries before) = ap (λ (t : Nodes). length (entries t)) m.same in omega arith
+
+  pub made_clean : (r : Result ℕ Full) → MatchResult r (NodeMade c v f before after) (IsFull before after) → Clean before zero_node → Clean after zero_node
+  made_clean (Ok n) m clean = still_clean before after zero_node m.kept clean
+  made_clean (Err e) m clean = subst (λ (t : Nodes). Clean t zero_node) (sym m.same) clean
+
+pub refused_grows : (c : Class) (row : List ℕ) (before after : Nodes) (e : Full) → RowRefused c row before after e → length (entries before) ≤ length (entries after)
+refused_grows c row before after e m = omega (arith, ap length m.nodes, length_link row (entries before))
 
 pub pushed_root : (n : ℕ) (before after : Forest) → Healthy before → length (roots_of before) < length (nodes_of before) → n < 1024 → after.nodes ≡ before.nodes → roots_of after ≡ roots_of before ++ n ∷ [] → Pushed n before after
 pushed_root n before after well own small same more =

@@ -4,12 +4,13 @@ use lib.ListN.{length-map}
 use Rattle.grammar.proofs.Closing.{grown_same, grown_kept, grown_tables}
 use Rattle.grammar.proofs.Counted.{name_number, names_are, names_fit, names_clean, names_over}
 use Rattle.grammar.proofs.Cycle.{kept_on, refused_so}
-use Rattle.grammar.proofs.Items.{rest_shorter}
+use Rattle.grammar.proofs.Leaves.{rest_shorter}
 use Rattle.grammar.proofs.Moves.{fixed_same, fits, tables_same}
 use Rattle.grammar.proofs.Rooting.{kept_place, still_clean}
 use Rattle.grammar.specs.Bodies.{Closed}
 use Rattle.grammar.specs.Forest.{nodes_of, roots_of}
-use Rattle.grammar.specs.Reader.{text_of, tokens_of, tables_of, fixed, zero_name, Sound, Kept}
+use Rattle.grammar.specs.Reader.{text_of, tokens_of, tables_of, fixed, Kept}
+use Rattle.grammar.specs.Sound.{zero_name, Sound}
 use Rattle.grammar.specs.Refusals.{RefusedAs}
 use Rattle.grammar.specs.Rules.{at_rule, at_arrow, HeadRead, HeadRefused, ArrowRead, ArrowRefused, RuleRead, NamesRuled, NamesLack, AllRead}
 use Rattle.grammar.specs.Words.{piece_token, word_spot, rest_of, WordTold, Advanced}
@@ -78,7 +79,7 @@ module _ (r : Reader) (x : Word) (first : WordTold r.words x) where
   arrow_misplaced ne = record { same = refl; told = λ rule. arrow_front r rule (piece_token x.piece spot) rest first ∙ heading_told (fixed r).limits rest (fixed r).ending spot (record { tables = tables_of r; rule = rule }) x.piece ne }
 
   -- an arrow
-  pub arrow_read : Sound r → x.piece ≡ piece_is.Arrow → (after : Words) (a : Advanced r.words after) → ArrowRead r (record { words = after; names = r.names; kinds = r.kinds; forest = r.forest; lenders = r.lenders })
+  pub arrow_read : Sound r.names r.kinds r.forest.nodes r.forest.roots → x.piece ≡ piece_is.Arrow → (after : Words) (a : Advanced r.words after) → ArrowRead r (record { words = after; names = r.names; kinds = r.kinds; forest = r.forest; lenders = r.lenders })
   arrow_read s e after a =
       let q : Reader = record { words = after; names = r.names; kinds = r.kinds; forest = r.forest; lenders = r.lenders } in
       let front : tokens_of r ≡ arrow spot ∷ rest = first ∙ ap (λ k. piece_token k spot ∷ rest) e in
@@ -97,7 +98,7 @@ module _ (r : Reader) (x : Word) (first : WordTold r.words x) where
       }
 
   -- the name of a rule
-  module _ (s : Sound r) (e : x.piece ≡ piece_is.Name) where
+  module _ (s : Sound r.names r.kinds r.forest.nodes r.forest.roots) (e : x.piece ≡ piece_is.Name) where
     abbrev entry : Name
     entry = record { place = x.place; length = x.length; root = 1024 }
 
@@ -153,7 +154,7 @@ module _ (r : Reader) (x : Word) (first : WordTold r.words x) where
           }
 
 -- a rule with its root
-module _ (m : Reader) (s : Sound m) (i n : ℕ) (small : n < 1024) (names : Filling Name 64) (list : entries names ≡ rooted i n (entries m.names)) (kept : RestKept m.names names) (loan : names.table.ghost_name ≡ m.names.table.ghost_name) where
+module _ (m : Reader) (s : Sound m.names m.kinds m.forest.nodes m.forest.roots) (i n : ℕ) (small : n < 1024) (names : Filling Name 64) (list : entries names ≡ rooted i n (entries m.names)) (kept : RestKept m.names names) (loan : names.table.ghost_name ≡ m.names.table.ghost_name) where
   abbrev rooted_reader : Reader
   rooted_reader = record { words = m.words; names = names; kinds = m.kinds; forest = m.forest; lenders = m.lenders }
 

@@ -3,13 +3,14 @@ use Rattle.std.proofs.Common.{◌≡◌, ℕ, ◌+◌, ◌<◌, List, [], ◌∷
 use Rattle.std.proofs.lemmas.List.{append-nil, append_assoc}
 use Rattle.grammar.proofs.Closing.{grown_same, grown_kept, grown_tables}
 use Rattle.grammar.proofs.Cycle.{kept_on, refused_so}
-use Rattle.grammar.proofs.Items.{rest_shorter}
+use Rattle.grammar.proofs.Leaves.{rest_shorter}
 use Rattle.grammar.proofs.Moves.{fits, fixed_same, moved, fronted}
 use Rattle.grammar.specs.Bodies.{Closed, Unclosed, with_items, SequenceOn}
 use Rattle.grammar.specs.Forest.{nodes_of, roots_of, Pushed}
-use Rattle.grammar.specs.Reader.{text_of, tokens_of, tables_of, fixed, Sound, standing, NodeRead, ItemRefused}
+use Rattle.grammar.specs.Reader.{text_of, tokens_of, tables_of, fixed, standing, NodeRead, ItemRefused}
+use Rattle.grammar.specs.Sound.{Sound}
 use Rattle.grammar.specs.Words.{bracket, piece_token, word_spot, rest_of, WordTold, Advanced}
-use Rattle.grammar.specs.Parts.{Forest}
+use Rattle.grammar.specs.Trees.{Forest}
 use Rattle.grammar.specs.declared.piece.Bracket.{Bracket as BracketOf}
 use Rattle.grammar.specs.declared.piece.Piece.{Piece}
 use Rattle.grammar.specs.declared.piece.Piece.TheVariants as piece_is
@@ -23,7 +24,7 @@ use Rattle.notation.specs.Reading.{Levels}
 use Rattle.notation.specs.Tokens.{Bracket, Spot, Token, opening, arrow}
 use Rattle.notation.proofs.Steps.{opening_on, opening_too_deep, arrow_misplaced}
 
-pub no_item_yet : (depth : ℕ) (r : Reader) → Sound r → SequenceOn depth r r
+pub no_item_yet : (depth : ℕ) (r : Reader) → Sound r.names r.kinds r.forest.nodes r.forest.roots → SequenceOn depth r r
 no_item_yet depth r s = record {
   kept = record { same = refl; sound = s };
   items = [];
@@ -85,7 +86,7 @@ module _ (depth : ℕ) (r : Reader) (x : Word) (first : WordTold r.words x) wher
           fronted bs rule outer r (opening (bracket b) spot) rest l (first_is (piece_is.Opening b) e) ∙ opening_too_deep (fixed r).limits rest (fixed r).ending bs (record { tables = tables_of r; rule = rule; level = l; outer = outer }) (bracket b) spot (deep ∙ full);
     }
 
-    module _ (s : Sound r) (room : depth < 32) (after : Words) (a : Advanced r.words after) where
+    module _ (s : Sound r.names r.kinds r.forest.nodes r.forest.roots) (room : depth < 32) (after : Words) (a : Advanced r.words after) where
       abbrev within : Reader
       within = record { words = after; names = r.names; kinds = r.kinds; forest = r.forest; lenders = r.lenders }
 

@@ -1,7 +1,7 @@
 -- What reading a text leaves in the tables.
 use Rattle.std.specs.Prelude.{◌≡◌, ℕ, ◌≤◌, ◌⊎◌, List, [], length}
 use Rattle.grammar.specs.Forest.{Clean}
-use Rattle.grammar.specs.Reader.{zero_name, zero_spelling}
+use Rattle.grammar.specs.Sound.{zero_name, zero_spelling}
 use Rattle.lexer.specs.declared.vocabulary.Spelling.{Spelling}
 use Rattle.tables.specs.Filling.{entries}
 use Rattle.tables.specs.Nodes.{Nodes, zero_node}

@@ -1,6 +1,6 @@
 -- The trees of a rule that is being read.
 use Rattle.std.specs.Prelude.{◌≡◌, ℕ, ◌-◌, ◌<◌, ◌≤◌, List, [], ◌∷◌, ◌++◌, length, take, drop, replicate, Some, None, Option}
-use Rattle.grammar.specs.Parts.{Forest}
+use Rattle.grammar.specs.Trees.{Forest}
 use Rattle.grammar.specs.declared.piece.Bracket.{Bracket}
 use Rattle.grammar.specs.declared.piece.Bracket.TheVariants as bracket_is
 use Rattle.notation.specs.Statements.{Each}

@@ -1,6 +1,6 @@
 -- What judging a grammar's text promises.
 use Rattle.std.specs.Prelude.{◌≡◌, ℕ, ◌-◌, ◌≤◌, min, List, map, length, take, drop, replicate}
-use Rattle.grammar.specs.Reader.{zero_name, zero_spelling}
+use Rattle.grammar.specs.Sound.{zero_name, zero_spelling}
 use Rattle.grammar.specs.Source.{grammar_tokens, grammar_ending}
 use Rattle.grammar.specs.declared.judging.Counts.{Counts}
 use Rattle.grammar.specs.declared.refusal.Refusal.{Refusal}

@@ -8,5 +8,7 @@ pub mod Pieces
 pub mod Reader
 pub mod Refusals
 pub mod Rules
+pub mod Sound
 pub mod Source
+pub mod Trees
 pub mod Words

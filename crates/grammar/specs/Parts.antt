@@ -1,16 +1,11 @@
 -- The parts of a reading: tokens in front, tables behind, and the roots that wait between them.
 use Rattle.std.specs.Prelude.{◌≡◌, ℕ, List}
+use Rattle.grammar.specs.Trees.{Forest}
 use Rattle.grammar.specs.declared.parser.Parser.{Parser}
 use Rattle.grammar.specs.declared.words.Words.{Words}
 use Rattle.lexer.specs.declared.vocabulary.Spelling.{Spelling}
-use Rattle.tables.specs.Nodes.{Nodes}
 use Rattle.tables.specs.declared.filling.Filling.{Filling}
 use Rattle.tables.specs.declared.name.Name.{Name}
-
--- the nodes made so far, and the roots that wait for their parent
-pub record Forest : Type 0 where
-  pub nodes : Nodes
-  pub roots : List ℕ
 
 -- whose the tokens and tables are, by the ghost names of their loans
 pub record Lenders : Type 0 where

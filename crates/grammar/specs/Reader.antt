@@ -2,12 +2,13 @@
 use Rattle.std.specs.Prelude.{◌≡◌, ℕ, ◌<◌, false, List, ◌∷◌, length}
 use Rattle.grammar.specs.Forest.{nodes_of, roots_of, limit_of, Place, place, Clean, Healthy}
 use Rattle.grammar.specs.Refusals.{RefusedAs}
+use Rattle.grammar.specs.Sound.{Sound}
 use Rattle.grammar.specs.Words as words
 use Rattle.grammar.specs.Words.{word_spot, rest_of, WordTold}
 use Rattle.grammar.specs.declared.piece.Piece.{Piece}
 use Rattle.grammar.specs.declared.piece.Piece.TheVariants as piece_is
-use Rattle.grammar.specs.declared.parser.Item.{Item}
-use Rattle.grammar.specs.declared.parser.Item.TheVariants as item_is
+use Rattle.grammar.specs.declared.items.Item.{Item}
+use Rattle.grammar.specs.declared.items.Item.TheVariants as item_is
 use Rattle.grammar.specs.Parts.{Lenders, Reader}
 use Rattle.grammar.specs.declared.refusal.Refusal.{Refusal}
 use Rattle.grammar.specs.declared.words.Word.{Word}
@@ -52,21 +53,10 @@ fixed r = record {
   lenders = r.lenders;
 }
 
-abbrev pub zero_name : Name
-zero_name = record { place = 0; length = 0; root = 0 }
-
-abbrev pub zero_spelling : Spelling
-zero_spelling = record { place = 0; length = 0 }
-
--- what holds between two calls
-pub record Sound (r : Reader) : Type 0 where
-  pub names_clean : Clean r.names zero_name
-  pub kinds_clean : Clean r.kinds zero_spelling
-  pub healthy : Healthy r.forest
 
 pub record Kept (before after : Reader) : Type 0 where
   pub same : fixed after ≡ fixed before
-  pub sound : Sound after
+  pub sound : Sound after.names after.kinds after.forest.nodes after.forest.roots
 
 -- what the automaton of the notation makes of the tokens to come, within these brackets and levels
 abbrev pub standing : Reader → (bs : List Bracket) → ℕ → Level → Levels bs → Outcome

@@ -5,10 +5,11 @@ ghost use Rattle.notation.specs.Tokens.{bar};
 ghost use Rattle.grammar.specs.Parts.{reader, roots};
 ghost use Rattle.grammar.specs.Words.{WordTold};
 ghost use Rattle.grammar.specs.declared.piece.Piece.TheVariants.{Bar};
-ghost use Rattle.grammar.specs.Reader.{Sound, ItemTold, ItemRefused, Ends};
+ghost use Rattle.grammar.specs.Reader.{ItemTold, ItemRefused, Ends};
 ghost use Rattle.grammar.specs.Bodies.{closing_piece, closing_token, level_at, MarkFirst, BranchRead, BranchRefused, FitsDepth, Closed, Unclosed, SequenceRead};
 
-use crate::parser::{Item, Parser};
+use crate::items::Item;
+use crate::parser::Parser;
 use crate::piece::{Bracket, Piece};
 use crate::refusal::Refusal;
 use crate::words::Word;
@@ -26,7 +27,7 @@ fn closing_mark(closing: Option<Bracket>) -> Piece
 impl Parser<'_, '_> {
     // At a bar: the sequence from an index on is ended, and waits as a branch.
     fn next_branch(&mut self, begin: usize) -> Result<(), Refusal>
-        requires { Sound (reader self.old) × MarkFirst self.old.words.now bar × (begin ≤ length (roots self.old)) }
+        requires { MarkFirst self.old.words.now bar × (begin ≤ length (roots self.old)) }
         ensures { MatchResult result (λ _. BranchRead begin (reader self.old) (reader self.new)) (BranchRefused begin (reader self.old) (reader self.new)) }
     {
         self.end_branch(begin)?;
@@ -36,7 +37,7 @@ impl Parser<'_, '_> {
 
     // At the mark that ends branches.
     fn close(&mut self, closing: Option<Bracket>, from: usize, begin: usize) -> Result<u16, Refusal>
-        requires { Sound (reader self.old) × MarkFirst self.old.words.now (closing_token closing) × (from ≤ begin) × (begin ≤ length (roots self.old)) }
+        requires { MarkFirst self.old.words.now (closing_token closing) × (from ≤ begin) × (begin ≤ length (roots self.old)) }
         ensures { (depth : ℕ) → depth ≤ 32 → MatchResult result (Closed closing depth (take from (roots self.old)) (level_at from begin (roots self.old)) (reader self.old) (reader self.new)) (Unclosed closing depth (level_at from begin (roots self.old)) (reader self.old) (reader self.new)) }
     {
         let node = self.finish(closing, from, begin)?;
@@ -52,7 +53,7 @@ impl Parser<'_, '_> {
         from: usize,
         begin: usize,
     ) -> Result<u16, Refusal>
-        requires { Sound (reader self.old) × WordTold self.old.words.now mark × Ends mark.piece × (mark.piece ≢ Bar) × (from ≤ begin) × (begin ≤ length (roots self.old)) }
+        requires { WordTold self.old.words.now mark × Ends mark.piece × (mark.piece ≢ Bar) × (from ≤ begin) × (begin ≤ length (roots self.old)) }
         ensures { (depth : ℕ) → depth ≤ 32 → MatchResult result (Closed closing depth (take from (roots self.old)) (level_at from begin (roots self.old)) (reader self.old) (reader self.new)) (Unclosed closing depth (level_at from begin (roots self.old)) (reader self.old) (reader self.new)) }
     {
         if mark.piece != closing_mark(closing) {
@@ -64,7 +65,7 @@ impl Parser<'_, '_> {
     // One part of a sequence, or the mark that ends it, which stays.
     #[cycle(branches_item_sequence)]
     fn item(&mut self, depth: u8) -> Result<Item, Refusal>
-        requires { Sound (reader self.old) × (depth ≤ 32) }
+        requires { depth ≤ 32 }
         ensures { MatchResult result (ItemTold depth (reader self.old) (reader self.new)) (ItemRefused depth (reader self.old) (reader self.new)) }
     {
         let word = self.words.word()?;
@@ -88,7 +89,7 @@ impl Parser<'_, '_> {
     // Items up to a mark that ends the sequence, which stays.
     #[cycle(branches_item_sequence)]
     fn sequence(&mut self, depth: u8) -> Result<Word, Refusal>
-        requires { Sound (reader self.old) × (depth ≤ 32) }
+        requires { depth ≤ 32 }
         ensures { MatchResult result (SequenceRead depth (reader self.old) (reader self.new)) (ItemRefused depth (reader self.old) (reader self.new)) }
     {
         loop {
@@ -102,7 +103,7 @@ impl Parser<'_, '_> {
     // Branches, and the mark that ends them.
     #[cycle(branches_item_sequence)]
     pub(crate) fn branches(&mut self, closing: Option<Bracket>, depth: u8) -> Result<u16, Refusal>
-        requires { Sound (reader self.old) × FitsDepth closing depth }
+        requires { FitsDepth closing depth }
         ensures { MatchResult result (Closed closing depth (roots self.old) no_level (reader self.old) (reader self.new)) (Unclosed closing depth no_level (reader self.old) (reader self.new)) }
     {
         let from = self.waiting.len();

@@ -1,7 +1,7 @@
 // The trees of a rule that is being read: the nodes made so far, and the roots that wait for
 // their parent.
 ghost use Rattle.std.specs.Prelude.{◌≡◌, ◌<◌, ◌≤◌, length, MatchResult};
-ghost use Rattle.grammar.specs.Forest.{roots_of, nodes_of, Healthy, Reduced, Unreduced, BranchEnded, BranchFull, Bracketed, Unbracketed, Finished, Unfinished};
+ghost use Rattle.grammar.specs.Forest.{roots_of, nodes_of, Reduced, Unreduced, BranchEnded, BranchFull, Bracketed, Unbracketed, Finished, Unfinished};
 ghost use Rattle.grammar.specs.Parts.{reader, forest, with_forest};
 
 use crate::parser::Parser;
@@ -12,7 +12,7 @@ use tree::Class;
 impl Parser<'_, '_> {
     // The roots from an index on get their parent, which waits no longer.
     fn reduce(&mut self, class: Class, from: usize) -> Result<u16, Full>
-        requires { Healthy (forest self.old) × (from ≤ length (roots_of (forest self.old))) }
+        requires { from ≤ length (roots_of (forest self.old)) }
         ensures told { MatchResult result (Reduced class from (forest self.old) (forest self.new)) (Unreduced class from (forest self.old) (forest self.new)) }
         ensures beside { reader self.new ≡ with_forest (reader self.old) (forest self.new) }
     {
@@ -24,7 +24,7 @@ impl Parser<'_, '_> {
 
     // The roots from an index on are a sequence that ends, and waits as a branch.
     pub(crate) fn end_branch(&mut self, begin: usize) -> Result<(), Full>
-        requires { Healthy (forest self.old) × (begin ≤ length (roots_of (forest self.old))) }
+        requires { begin ≤ length (roots_of (forest self.old)) }
         ensures told { MatchResult result (λ _. BranchEnded begin (forest self.old) (forest self.new)) (BranchFull begin (forest self.old) (forest self.new)) }
         ensures beside { reader self.new ≡ with_forest (reader self.old) (forest self.new) }
     {
@@ -35,7 +35,7 @@ impl Parser<'_, '_> {
 
     // The node of brackets around branches; a rule's branches and parentheses have none.
     fn bracketed(&mut self, closing: Option<Bracket>, inside: u16) -> Result<u16, Full>
-        requires { Healthy (forest self.old) × (length (roots_of (forest self.old)) < length (nodes_of (forest self.old))) × (inside < 1024) }
+        requires { (length (roots_of (forest self.old)) < length (nodes_of (forest self.old))) × (inside < 1024) }
         ensures told { MatchResult result (Bracketed closing inside (forest self.old) (forest self.new)) (Unbracketed closing inside (forest self.old) (forest self.new)) }
         ensures beside { reader self.new ≡ with_forest (reader self.old) (forest self.new) }
     {
@@ -54,7 +54,7 @@ impl Parser<'_, '_> {
         from: usize,
         begin: usize,
     ) -> Result<u16, Full>
-        requires { Healthy (forest self.old) × (from ≤ begin) × (begin ≤ length (roots_of (forest self.old))) }
+        requires { (from ≤ begin) × (begin ≤ length (roots_of (forest self.old))) }
         ensures told { MatchResult result (Finished closing from begin (forest self.old) (forest self.new)) (Unfinished closing from begin (forest self.old) (forest self.new)) }
         ensures beside { reader self.new ≡ with_forest (reader self.old) (forest self.new) }
     {

@@ -3,6 +3,7 @@
 
 mod bodies;
 mod forest;
+mod items;
 mod judging;
 mod marks;
 mod parser;

@@ -1,15 +1,13 @@
 // The parser of the notation: the tokens to come, a stack of roots, and the tables that it fills.
-ghost use Rattle.std.specs.Prelude.{◌≡◌, ℕ, ◌≤◌, MatchResult};
-ghost use Rattle.grammar.specs.Parts.{reader};
-ghost use Rattle.grammar.specs.Reader.{Sound, NamedFirst, TerminalFirst, SpellingFirst, ItemTold, ItemRefused};
+ghost use Rattle.std.specs.Prelude.{◌≤◌, length};
+ghost use Rattle.grammar.specs.Forest.{Clean};
+ghost use Rattle.grammar.specs.Sound.{AllSmall, small_prop, zero_name, zero_spelling};
+ghost use Rattle.tables.specs.Filling.{entries};
+ghost use Rattle.tables.specs.Nodes.{zero_node};
 
-use crate::refusal::Refusal;
-use crate::spelling::may_be_spelled;
-use crate::words::{Word, Words};
+use crate::words::Words;
 use arrayvec::ArrayVec;
-use lexer::Spelling;
-use tables::{Kinds, NODES, Name, Names, Nodes, clip};
-use tree::{Class, NONE};
+use tables::{Kinds, NODES, Names, Nodes};
 
 // The tables are lent to the parser. The roots that wait for their parent are as on the stack of
 // a shift-reduce parser; each is a node of its own, so that there is room for them.
@@ -20,59 +18,9 @@ pub(crate) struct Parser<'p, 'a> {
     pub names: &'p mut Names<'a>,
     pub kinds: &'p mut Kinds<'a>,
     pub nodes: &'p mut Nodes<'a>,
-}
-
-// What an item was read as: its node, or none, at a mark that ends the sequence.
-#[derive(Clone, Copy)]
-pub(crate) enum Item {
-    Node(u16),
-    Mark(Word),
-}
-
-impl Parser<'_, '_> {
-    // A name in a sequence.
-    pub(crate) fn name_item(&mut self, word: Word) -> Result<Item, Refusal>
-        requires { NamedFirst self.old.words.now word × Sound (reader self.old) }
-        ensures { (depth : ℕ) → depth ≤ 32 → MatchResult result (ItemTold depth (reader self.old) (reader self.new)) (ItemRefused depth (reader self.old) (reader self.new)) }
-    {
-        let entry = Name {
-            place: word.place,
-            length: word.length,
-            root: NONE,
-        };
-        let Ok(name) = self.names.number(self.words.text, entry) else {
-            return Err(Refusal::NamesFull(word.place));
-        };
-        let node = self.nodes.make(Class::Name, name as u16, NONE)?;
-        self.words.advance();
-        Ok(Item::Node(node))
-    }
-
-    // A class word or a quoted spelling in a sequence; kinds are numbered from 1.
-    pub(crate) fn token_item(&mut self, word: Word) -> Result<Item, Refusal>
-        requires { TerminalFirst self.old.words.now word × Sound (reader self.old) }
-        ensures { (depth : ℕ) → depth ≤ 32 → MatchResult result (ItemTold depth (reader self.old) (reader self.new)) (ItemRefused depth (reader self.old) (reader self.new)) }
-    {
-        let entry = Spelling {
-            place: word.place,
-            length: word.length,
-        };
-        let Ok(kind) = self.kinds.number(self.words.text, entry) else {
-            return Err(Refusal::KindsFull(word.place));
-        };
-        let node = self.nodes.make(Class::Token, kind as u16 + 1, NONE)?;
-        self.words.advance();
-        Ok(Item::Node(node))
-    }
-
-    // A quoted spelling in a sequence.
-    pub(crate) fn spelling_item(&mut self, word: Word) -> Result<Item, Refusal>
-        requires { SpellingFirst self.old.words.now word × Sound (reader self.old) }
-        ensures { (depth : ℕ) → depth ≤ 32 → MatchResult result (ItemTold depth (reader self.old) (reader self.new)) (ItemRefused depth (reader self.old) (reader self.new)) }
-    {
-        if !may_be_spelled(clip(self.words.text, word.place, word.length)) {
-            return Err(Refusal::Misspelt(word.place));
-        }
-        self.token_item(word)
-    }
+    ghost names_clean: { Clean names.now zero_name },
+    ghost kinds_clean: { Clean kinds.now zero_spelling },
+    ghost nodes_clean: { Clean nodes.now zero_node },
+    ghost few: { length waiting.items ≤ length (entries nodes.now) },
+    ghost small: { AllSmall waiting.items } by { small_prop waiting.items },
 }

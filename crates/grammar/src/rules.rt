@@ -1,7 +1,6 @@
 // Rules, up to the end of the text.
 ghost use Rattle.std.specs.Prelude.{◌≡◌, ℕ, MatchResult};
 ghost use Rattle.grammar.specs.Parts.{reader, SameLoans};
-ghost use Rattle.grammar.specs.Reader.{Sound};
 ghost use Rattle.grammar.specs.Words.{WordTold};
 ghost use Rattle.grammar.specs.Rules.{HeadRead, HeadRefused, ArrowRead, ArrowRefused, RuleRead, AllRead, NamesRuled, NamesLack};
 ghost use Rattle.tables.specs.Filling.{entries};
@@ -17,7 +16,7 @@ use tree::NONE;
 impl Parser<'_, '_> {
     // The name of a rule, which has none yet.
     fn head(&mut self, word: Word) -> Result<usize, Refusal>
-        requires { WordTold self.old.words.now word × Sound (reader self.old) }
+        requires { WordTold self.old.words.now word }
         ensures { MatchResult result (HeadRead (reader self.old) (reader self.new)) (HeadRefused (reader self.old) (reader self.new)) }
     {
         if word.piece != Piece::Name {
@@ -39,7 +38,6 @@ impl Parser<'_, '_> {
     }
 
     fn arrow(&mut self) -> Result<(), Refusal>
-        requires { Sound (reader self.old) }
         ensures { MatchResult result (λ _. ArrowRead (reader self.old) (reader self.new)) (ArrowRefused (reader self.old) (reader self.new)) }
     {
         let word = self.words.word()?;
@@ -51,7 +49,7 @@ impl Parser<'_, '_> {
     }
 
     fn rule(&mut self, word: Word) -> Result<(), Refusal>
-        requires { WordTold self.old.words.now word × Sound (reader self.old) }
+        requires { WordTold self.old.words.now word }
         ensures { MatchResult result (λ _. RuleRead (reader self.old) (reader self.new)) (HeadRefused (reader self.old) (reader self.new)) }
     {
         let name = self.head(word)?;
@@ -76,7 +74,6 @@ impl Parser<'_, '_> {
 
     // All rules.
     pub(crate) fn rules(&mut self) -> Result<(), Refusal>
-        requires { Sound (reader self.old) }
         ensures told { MatchResult result (λ _. AllRead (reader self.old) (reader self.new)) (HeadRefused (reader self.old) (reader self.new)) }
         ensures loans { SameLoans self.old self.new }
     {

@@ -1,5 +1,5 @@
 use Rattle.std.proofs.Common.{subst, rules}
-use Rattle.grammar.specs.Reader.{zero_name, zero_spelling}
+use Rattle.grammar.specs.Sound.{zero_name, zero_spelling}
 use Rattle.grammar.proofs.Filling.{new_clean}
 use Rattle.tables.specs.Nodes.{zero_node}
 use Rattle.tokens.specs.Layered.{Layered}

@@ -1,15 +1,17 @@
 use Rattle.std.proofs.Common.{◌≡◌, refl, subst, arith, rules}
-use Rattle.grammar.specs.Parts.{Forest, reader}
+use Rattle.grammar.specs.Parts.{reader}
+use Rattle.grammar.specs.Trees.{Forest}
 use Rattle.grammar.specs.Reader.{ItemTold, NodeRead}
 use Rattle.grammar.specs.declared.piece.Piece.TheVariants.{Bar}
 use Rattle.grammar.proofs.Cycle.{no_branch_yet, low_high, high_within, bar_first, branch_more, branch_unclosed, all_closed, depth_fits}
 use Rattle.grammar.proofs.Finishing.{passed_on}
 use Rattle.grammar.proofs.Rooting.{pushed_root}
+use Rattle.grammar.proofs.Soundness.{sound}
 use Rattle.grammar.proofs.Sequences.{no_item_yet, item_more, arrow_unread, group_too_deep, group_read, group_unread}
 use Rattle.grammar.proofs.parser.Parser.+branches_item_sequence.Goals as goal
 
 pub branches-loop-mark-init : goal.branches-loop-mark-init
-branches-loop-mark-init t c = no_branch_yet c.args.depth (reader c.args.self.now) c.requires.0
+branches-loop-mark-init t c = no_branch_yet c.args.depth (reader c.args.self.now) (sound c.args.self.now)
 
 pub branches-end-requires : goal.branches-end-requires
 branches-end-requires t c =
@@ -18,11 +20,11 @@ branches-end-requires t c =
     let n = reader c.sequence.new.self in
     let q = c.in_ok-mark.ensures in
     let other : c.in_ok-mark.mark.piece ≡ Bar → ⊥ = search rules in
-    (q.on.kept.sound, q.first, q.ends, other, low_high c.args.depth r m n c.loop-mark.invariant c.in_ok-mark.mark q c.len-from.result c.len-begin.result c.len-from.ensures.value c.len-begin.ensures.value, high_within c.args.depth r m n c.loop-mark.invariant c.in_ok-mark.mark q c.len-from.result c.len-begin.result c.len-from.ensures.value c.len-begin.ensures.value)
+    (q.first, q.ends, other, low_high c.args.depth r m n c.loop-mark.invariant c.in_ok-mark.mark q c.len-from.result c.len-begin.result c.len-from.ensures.value c.len-begin.ensures.value, high_within c.args.depth r m n c.loop-mark.invariant c.in_ok-mark.mark q c.len-from.result c.len-begin.result c.len-from.ensures.value c.len-begin.ensures.value)
 
 pub branches-returns-then-ne : goal.branches-returns-then-ne
 branches-returns-then-ne t c =
-    all_closed c.args.depth (reader c.args.self.now) (reader c.loop-mark.self) (reader c.sequence.new.self) c.loop-mark.invariant c.in_ok-mark.mark c.in_ok-mark.ensures c.len-from.result c.len-begin.result c.len-from.ensures.value c.len-begin.ensures.value c.args.closing c.requires.1 (reader c.end.new.self) c.end.result (λ k d. c.end.ensures k d)
+    all_closed c.args.depth (reader c.args.self.now) (reader c.loop-mark.self) (reader c.sequence.new.self) c.loop-mark.invariant c.in_ok-mark.mark c.in_ok-mark.ensures c.len-from.result c.len-begin.result c.len-from.ensures.value c.len-begin.ensures.value c.args.closing c.requires (reader c.end.new.self) c.end.result (λ k d. c.end.ensures k d)
 
 pub branches-next_branch-requires : goal.branches-next_branch-requires
 branches-next_branch-requires t c =
@@ -31,11 +33,11 @@ branches-next_branch-requires t c =
     let n = reader c.sequence.new.self in
     let q = c.in_ok-mark.ensures in
     let same : c.in_ok-mark.mark.piece ≡ Bar = search rules in
-    (q.on.kept.sound, bar_first c.args.depth r m n c.loop-mark.invariant c.in_ok-mark.mark q c.len-from.result c.len-begin.result c.len-from.ensures.value c.len-begin.ensures.value same, high_within c.args.depth r m n c.loop-mark.invariant c.in_ok-mark.mark q c.len-from.result c.len-begin.result c.len-from.ensures.value c.len-begin.ensures.value)
+    (bar_first c.args.depth r m n c.loop-mark.invariant c.in_ok-mark.mark q c.len-from.result c.len-begin.result c.len-from.ensures.value c.len-begin.ensures.value same, high_within c.args.depth r m n c.loop-mark.invariant c.in_ok-mark.mark q c.len-from.result c.len-begin.result c.len-from.ensures.value c.len-begin.ensures.value)
 
 pub branches-loop-mark-preserved : goal.branches-loop-mark-preserved
 branches-loop-mark-preserved t c =
-    branch_more c.args.depth (reader c.args.self.now) (reader c.loop-mark.self) (reader c.sequence.new.self) c.loop-mark.invariant c.in_ok-mark.mark c.in_ok-mark.ensures c.len-from.result c.len-begin.result c.len-from.ensures.value c.len-begin.ensures.value (depth_fits c.args.closing c.args.depth c.requires.1) (reader c.next_branch.new.self) c.in_ok-next_branch.ensures
+    branch_more c.args.depth (reader c.args.self.now) (reader c.loop-mark.self) (reader c.sequence.new.self) c.loop-mark.invariant c.in_ok-mark.mark c.in_ok-mark.ensures c.len-from.result c.len-begin.result c.len-from.ensures.value c.len-begin.ensures.value (depth_fits c.args.closing c.args.depth c.requires) (reader c.next_branch.new.self) c.in_ok-next_branch.ensures
 
 pub branches-loop-mark-smaller : goal.branches-loop-mark-smaller
 branches-loop-mark-smaller t c =
@@ -46,7 +48,7 @@ branches-loop-mark-smaller t c =
 pub branches-returns-in_err-next_branch : goal.branches-returns-in_err-next_branch
 branches-returns-in_err-next_branch t c =
     passed_on c.from_residual-in_err-next_branch.result c.in_err-next_branch.field-0.0 _ _ c.from_residual-in_err-next_branch.ensures.1
-    (branch_unclosed c.args.depth (reader c.args.self.now) (reader c.loop-mark.self) (reader c.sequence.new.self) c.loop-mark.invariant c.in_ok-mark.mark c.in_ok-mark.ensures c.len-from.result c.len-begin.result c.len-from.ensures.value c.len-begin.ensures.value c.args.closing c.requires.1 (reader c.next_branch.new.self) c.in_err-next_branch.field-0.0 c.in_err-next_branch.ensures)
+    (branch_unclosed c.args.depth (reader c.args.self.now) (reader c.loop-mark.self) (reader c.sequence.new.self) c.loop-mark.invariant c.in_ok-mark.mark c.in_ok-mark.ensures c.len-from.result c.len-begin.result c.len-from.ensures.value c.len-begin.ensures.value c.args.closing c.requires (reader c.next_branch.new.self) c.in_err-next_branch.field-0.0 c.in_err-next_branch.ensures)
 
 pub item-returns-then-depth-eq-DEPTH : goal.item-returns-then-depth-eq-DEPTH
 item-returns-then-depth-eq-DEPTH t c = group_too_deep c.args.depth (reader c.args.self.now) c.in_ok-word.word c.in_ok-word.ensures c.in-Opening.bracket c.in-Opening.is c.if-depth-eq-DEPTH.true
@@ -54,17 +56,17 @@ item-returns-then-depth-eq-DEPTH t c = group_too_deep c.args.depth (reader c.arg
 pub item-returns-in_err-node-in-Opening : goal.item-returns-in_err-node-in-Opening
 item-returns-in_err-node-in-Opening t c =
     passed_on c.from_residual-in_err-node-in-Opening.result c.in_err-node-in-Opening.field-0.0 _ _ c.from_residual-in_err-node-in-Opening.ensures.1
-    (group_unread c.args.depth (reader c.args.self.now) c.in_ok-word.word c.in_ok-word.ensures c.in-Opening.bracket c.in-Opening.is c.requires.0 (omega arith) c.advance.new.self c.advance.ensures (reader c.branches.new.self) c.in_err-node-in-Opening.field-0.0 c.in_err-node-in-Opening.ensures)
+    (group_unread c.args.depth (reader c.args.self.now) c.in_ok-word.word c.in_ok-word.ensures c.in-Opening.bracket c.in-Opening.is (sound c.args.self.now) (omega arith) c.advance.new.self c.advance.ensures (reader c.branches.new.self) c.in_err-node-in-Opening.field-0.0 c.in_err-node-in-Opening.ensures)
 
 pub item-returns-in-Arrow : goal.item-returns-in-Arrow
 item-returns-in-Arrow t c = arrow_unread c.args.depth (reader c.args.self.now) c.in_ok-word.word c.in_ok-word.ensures c.in-Arrow.is
 
 pub item-returns-in_ok-node-in-Opening : goal.item-returns-in_ok-node-in-Opening
 item-returns-in_ok-node-in-Opening t c =
-    group_read c.args.depth (reader c.args.self.now) c.in_ok-word.word c.in_ok-word.ensures c.in-Opening.bracket c.in-Opening.is c.requires.0 (omega arith) c.advance.new.self c.advance.ensures (reader c.branches.new.self) c.in_ok-node-in-Opening.node c.in_ok-node-in-Opening.ensures
+    group_read c.args.depth (reader c.args.self.now) c.in_ok-word.word c.in_ok-word.ensures c.in-Opening.bracket c.in-Opening.is (sound c.args.self.now) (omega arith) c.advance.new.self c.advance.ensures (reader c.branches.new.self) c.in_ok-node-in-Opening.node c.in_ok-node-in-Opening.ensures
 
 pub sequence-loop-node-init : goal.sequence-loop-node-init
-sequence-loop-node-init t c = no_item_yet c.args.depth (reader c.args.self.now) c.requires.0
+sequence-loop-node-init t c = no_item_yet c.args.depth (reader c.args.self.now) (sound c.args.self.now)
 
 pub sequence-loop-node-preserved : goal.sequence-loop-node-preserved
 sequence-loop-node-preserved t c =

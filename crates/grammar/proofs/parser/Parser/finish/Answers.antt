@@ -10,14 +10,13 @@ returns-in_err-end_branch-clause-told c =
 
 pub reduce-requires : goal.reduce-requires
 reduce-requires c =
-    let b = c.in_ok-end_branch.ensures.told in
-    (b.healthy, still_within c.args.closing c.args.from c.args.begin (forest c.args.self.now) c.requires.1 c.requires.2 _ b)
+    still_within c.args.closing c.args.from c.args.begin (forest c.args.self.now) c.requires.0 c.requires.1 _ c.in_ok-end_branch.ensures.told
 
 pub returns-in_err-inside-clause-told : goal.returns-in_err-inside-clause-told
 returns-in_err-inside-clause-told c =
     let e = c.in_err-inside.field-0.0 in
     passed_on c.from_residual-in_err-inside.result e _ _ c.from_residual-in_err-inside.ensures.1
-    (branches_over c.args.closing c.args.from c.args.begin (forest c.args.self.now) c.requires.1 c.requires.2 _ c.in_ok-end_branch.ensures.told _ e c.in_err-inside.ensures.told)
+    (branches_over c.args.closing c.args.from c.args.begin (forest c.args.self.now) c.requires.0 c.requires.1 _ c.in_ok-end_branch.ensures.told _ e c.in_err-inside.ensures.told)
 
 pub returns-in_err-inside-clause-beside : goal.returns-in_err-inside-clause-beside
 returns-in_err-inside-clause-beside c = c.in_err-inside.ensures.beside ∙ ap (λ q. with_forest q (forest c.reduce.new.self)) c.in_ok-end_branch.ensures.beside
@@ -25,11 +24,11 @@ returns-in_err-inside-clause-beside c = c.in_err-inside.ensures.beside ∙ ap (�
 pub bracketed-requires : goal.bracketed-requires
 bracketed-requires c =
     let r = c.in_ok-inside.ensures.told in
-    (r.healthy, r.own, r.small)
+    (r.own, r.small)
 
 pub returns-clause-told : goal.returns-clause-told
 returns-clause-told c =
-    ended_over c.args.closing c.args.from c.args.begin (forest c.args.self.now) c.requires.1 c.requires.2 (forest c.end_branch.new.self) c.in_ok-end_branch.ensures.told (forest c.reduce.new.self) c.in_ok-inside.inside c.in_ok-inside.ensures.told (forest c.bracketed.new.self) c.bracketed.result c.bracketed.ensures.told
+    ended_over c.args.closing c.args.from c.args.begin (forest c.args.self.now) c.requires.0 c.requires.1 (forest c.end_branch.new.self) c.in_ok-end_branch.ensures.told (forest c.reduce.new.self) c.in_ok-inside.inside c.in_ok-inside.ensures.told (forest c.bracketed.new.self) c.bracketed.result c.bracketed.ensures.told
 
 pub returns-clause-beside : goal.returns-clause-beside
 returns-clause-beside c =

@@ -1,8 +1,10 @@
-use Rattle.std.proofs.Common.{drop, ap, ◌∙◌}
+use Rattle.std.proofs.Common.{drop, ap, ◌∙◌, arith}
 use Rattle.std.proofs.lemmas.List.{take_rest}
 use Rattle.grammar.specs.Parts.{forest}
 use Rattle.grammar.proofs.Finishing.{passed_on}
-use Rattle.grammar.proofs.Rooting.{reduced, unreduced}
+use Rattle.grammar.proofs.Soundness.{healthy}
+use Rattle.grammar.proofs.Rooting.{still_clean, refused_grows, reduced, unreduced}
+use Rattle.tables.specs.Nodes.{zero_node}
 use Rattle.grammar.proofs.parser.Parser.reduce.Goals as goal
 
 pub returns-in_err-node-clause-told : goal.returns-in_err-node-clause-told
@@ -15,4 +17,25 @@ pub returns-clause-told : goal.returns-clause-told
 returns-clause-told c =
     let row = take_rest c.as_slice.result.now c.args.from ∙ ap (drop c.args.from) c.as_slice.ensures.value in
     let r = c.in_ok-node.ensures in
-    reduced c.args.class c.args.from _ (forest c.args.self.now) _ c.in_ok-node.node c.requires.0 c.requires.1 row c.truncate.ensures.items r.told r.loan
+    reduced c.args.class c.args.from _ (forest c.args.self.now) _ c.in_ok-node.node (healthy c.args.self.now) c.requires row c.truncate.ensures.items r.told r.loan
+
+pub invariant_of-self : goal.invariant_of-self
+invariant_of-self c =
+    let p = c.args.self.now in
+    let r = c.in_err-node.ensures in
+    let few = p.few in
+    record {
+      names_clean = p.names_clean;
+      kinds_clean = p.kinds_clean;
+      nodes_clean = still_clean p.nodes.now c.complete.new.self zero_node r.told.kept p.nodes_clean;
+      few = omega (arith, refused_grows c.args.class _ p.nodes.now c.complete.new.self _ r.told);
+      small = p.small;
+    }
+
+pub invariant_of-self-2 : goal.invariant_of-self-2
+invariant_of-self-2 c =
+    let p = c.args.self.now in
+    let row = take_rest c.as_slice.result.now c.args.from ∙ ap (drop c.args.from) c.as_slice.ensures.value in
+    let r = c.in_ok-node.ensures in
+    let h = (reduced c.args.class c.args.from _ (forest p) (record { nodes = c.complete.new.self; roots = c.truncate.new.self.items }) c.in_ok-node.node (healthy p) c.requires row c.truncate.ensures.items r.told r.loan).healthy in
+    record { names_clean = p.names_clean; kinds_clean = p.kinds_clean; nodes_clean = h.clean; few = h.few; small = h.small }

@@ -4,9 +4,10 @@ use Rattle.grammar.proofs.Counted.{name_number, names_are, names_fit, names_clea
 use Rattle.grammar.proofs.Moves.{fixed_same, fits, moved, fronted, tables_same}
 use Rattle.grammar.proofs.Rooting.{kept_place}
 use Rattle.grammar.specs.Forest.{nodes_of, MadeOne, MadeNone}
-use Rattle.grammar.specs.Reader.{text_of, tokens_of, tables_of, fixed, zero_name, zero_spelling, Sound, NamedFirst, SpellingFirst, TerminalFirst, NodeRead, ItemRefused}
+use Rattle.grammar.specs.Reader.{text_of, tokens_of, tables_of, fixed, NamedFirst, SpellingFirst, TerminalFirst, NodeRead, ItemRefused}
+use Rattle.grammar.specs.Sound.{zero_name, zero_spelling, Sound}
 use Rattle.grammar.specs.Words.{word_spot, piece_token, rest_of, Advanced}
-use Rattle.grammar.specs.Parts.{Forest}
+use Rattle.grammar.specs.Trees.{Forest}
 use Rattle.grammar.specs.Parts.{Reader}
 use Rattle.grammar.specs.declared.refusal.Refusal.TheVariants.{Misspelt, NamesFull, KindsFull, NodesFull}
 use Rattle.grammar.specs.declared.words.Word.{Word}
@@ -32,7 +33,7 @@ rest_shorter ts t e = omega (arith, ap length e)
 one_add_right : (i : ℕ) → i + 1 ≡ suc i
 one_add_right i = omega arith
 
-module _ (r : Reader) (s : Sound r) (x : Word) where
+module _ (r : Reader) (s : Sound r.names r.kinds r.forest.nodes r.forest.roots) (x : Word) where
   abbrev spot : Spot
   spot = word_spot (text_of r) x
 

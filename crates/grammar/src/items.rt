@@ -1,0 +1,67 @@
+// The items of sequences.
+ghost use Rattle.std.specs.Prelude.{◌≡◌, ℕ, ◌≤◌, MatchResult};
+ghost use Rattle.grammar.specs.Parts.{reader};
+ghost use Rattle.grammar.specs.Reader.{NamedFirst, TerminalFirst, SpellingFirst, ItemTold, ItemRefused};
+
+use crate::parser::Parser;
+use crate::refusal::Refusal;
+use crate::spelling::may_be_spelled;
+use crate::words::Word;
+use lexer::Spelling;
+use tables::{Name, clip};
+use tree::{Class, NONE};
+
+// What an item was read as: its node, or none, at a mark that ends the sequence.
+#[derive(Clone, Copy)]
+pub(crate) enum Item {
+    Node(u16),
+    Mark(Word),
+}
+
+impl Parser<'_, '_> {
+    // A name in a sequence.
+    pub(crate) fn name_item(&mut self, word: Word) -> Result<Item, Refusal>
+        requires { NamedFirst self.old.words.now word }
+        ensures { (depth : ℕ) → depth ≤ 32 → MatchResult result (ItemTold depth (reader self.old) (reader self.new)) (ItemRefused depth (reader self.old) (reader self.new)) }
+    {
+        let entry = Name {
+            place: word.place,
+            length: word.length,
+            root: NONE,
+        };
+        let Ok(name) = self.names.number(self.words.text, entry) else {
+            return Err(Refusal::NamesFull(word.place));
+        };
+        let node = self.nodes.make(Class::Name, name as u16, NONE)?;
+        self.words.advance();
+        Ok(Item::Node(node))
+    }
+
+    // A class word or a quoted spelling in a sequence; kinds are numbered from 1.
+    pub(crate) fn token_item(&mut self, word: Word) -> Result<Item, Refusal>
+        requires { TerminalFirst self.old.words.now word }
+        ensures { (depth : ℕ) → depth ≤ 32 → MatchResult result (ItemTold depth (reader self.old) (reader self.new)) (ItemRefused depth (reader self.old) (reader self.new)) }
+    {
+        let entry = Spelling {
+            place: word.place,
+            length: word.length,
+        };
+        let Ok(kind) = self.kinds.number(self.words.text, entry) else {
+            return Err(Refusal::KindsFull(word.place));
+        };
+        let node = self.nodes.make(Class::Token, kind as u16 + 1, NONE)?;
+        self.words.advance();
+        Ok(Item::Node(node))
+    }
+
+    // A quoted spelling in a sequence.
+    pub(crate) fn spelling_item(&mut self, word: Word) -> Result<Item, Refusal>
+        requires { SpellingFirst self.old.words.now word }
+        ensures { (depth : ℕ) → depth ≤ 32 → MatchResult result (ItemTold depth (reader self.old) (reader self.new)) (ItemRefused depth (reader self.old) (reader self.new)) }
+    {
+        if !may_be_spelled(clip(self.words.text, word.place, word.length)) {
+            return Err(Refusal::Misspelt(word.place));
+        }
+        self.token_item(word)
+    }
+}
