@@ -3,9 +3,8 @@ use Rattle.std.proofs.Common.{◌≡◌, ℕ, ◌<◌, ◌≤◌, List, [], ◌�
 use Rattle.grammar.proofs.Leaves.{rest_shorter}
 use Rattle.grammar.proofs.Moves.{fixed_same, fits, moved, fronted, tables_same}
 use Rattle.grammar.specs.Bodies.{closing_token, level_at, MarkFirst, BranchRead, BranchRefused, EndedGoes, EndedRefused, Closed, Unclosed}
-use Rattle.grammar.specs.Forest.{nodes_of, roots_of, place, Healthy, over_group, over_branches, BranchEnded, BranchFull, Finished, Unfinished}
-use Rattle.grammar.specs.Reader.{tokens_of, tables_of, fixed, Kept, standing_ready}
-use Rattle.grammar.specs.Sound.{Sound}
+use Rattle.grammar.specs.Forest.{nodes_of, roots_of, place, over_group, over_branches, BranchEnded, BranchFull, Finished, Unfinished}
+use Rattle.grammar.specs.Reader.{tokens_of, tables_of, fixed, standing_ready}
 use Rattle.grammar.specs.Words.{bracket, rest_of, Advanced}
 use Rattle.grammar.specs.Trees.{Forest}
 use Rattle.grammar.specs.declared.piece.Bracket.{Bracket as BracketOf}
@@ -55,29 +54,19 @@ pub closed_row : (b : BracketOf) (ended items : List ℕ) (T : Tables) → end_g
 closed_row b ended items T = ap (end_group (bracket b)) (level_row ended items T) ∙ group_row b T (over_branches ended items T.nodes)
 
 -- a forest that has changed, and a token that is gone
-module _ (r : Reader) (s : Sound r.names r.kinds r.forest.nodes r.forest.roots) (forest : Forest) (same_place : place forest.nodes ≡ place r.forest.nodes) where
+module _ (r : Reader) (forest : Forest) (same_place : place forest.nodes ≡ place r.forest.nodes) where
   abbrev halfway : Reader
   halfway = record { words = r.words; names = r.names; kinds = r.kinds; forest = forest; lenders = r.lenders }
 
   pub half_same : fixed (record { words = r.words; names = r.names; kinds = r.kinds; forest = forest; lenders = r.lenders }) ≡ fixed r
   half_same = fixed_same r halfway refl refl refl refl same_place refl
 
-  module _ (healthy : Healthy forest) (after : Words) (a : Advanced r.words after) where
+  module _ (after : Words) (a : Advanced r.words after) where
     abbrev q : Reader
     q = record { words = after; names = r.names; kinds = r.kinds; forest = forest; lenders = r.lenders }
 
     pub grown_same : fixed (record { words = after; names = r.names; kinds = r.kinds; forest = forest; lenders = r.lenders }) ≡ fixed r
     grown_same = fixed_same r q a.text_same a.end_same refl refl same_place refl
-
-    pub grown_kept : Kept r (record { words = after; names = r.names; kinds = r.kinds; forest = forest; lenders = r.lenders })
-    grown_kept = record {
-      same = grown_same;
-      sound = record {
-        names_clean = s.names_clean;
-        kinds_clean = s.kinds_clean;
-        healthy = healthy;
-      };
-    }
 
     pub grown_tables : (ns : List Node) → nodes_of forest ≡ ns → ◌≡◌ {A = Tables} (record { names = (tables_of r).names; kinds = (tables_of r).kinds; nodes = ns }) (tables_of (record { words = after; names = r.names; kinds = r.kinds; forest = forest; lenders = r.lenders }))
     grown_tables ns e =
@@ -95,7 +84,7 @@ ready_moved r q T U ts same t s =
     ap (λ f. run f.limits ready T ts f.ending) (sym same) ∙ ap (λ X. run (fixed q).limits ready X ts (fixed q).ending) t ∙ ap (λ x. run (fixed q).limits ready U x (fixed q).ending) s
 
 -- a bar
-module _ (r : Reader) (s : Sound r.names r.kinds r.forest.nodes r.forest.roots) (first : MarkFirst r.words bar) (begin : ℕ) where
+module _ (r : Reader) (first : MarkFirst r.words bar) (begin : ℕ) where
   abbrev items : List ℕ
   items = drop begin (roots_of r.forest)
 
@@ -104,33 +93,33 @@ module _ (r : Reader) (s : Sound r.names r.kinds r.forest.nodes r.forest.roots) 
 
   pub branch_full : (forest : Forest) (e : Full) → BranchFull begin r.forest forest e → BranchRefused begin r (record { words = r.words; names = r.names; kinds = r.kinds; forest = forest; lenders = r.lenders }) (NodesFull e.limit)
   branch_full forest e h = record {
-    same = half_same r s forest h.place;
+    same = half_same r forest h.place;
     told =
         λ bs deep rule ended outer.
         fronted bs rule outer r (bar first.spot) (rest_of (tokens_of r)) (record { ended = ended; items = items }) first.first
-        ∙ bar_nodes_full (fixed r).limits (rest_of (tokens_of r)) (fixed r).ending bs (record { tables = tables_of r; rule = rule; level = record { ended = ended; items = items }; outer = outer }) first.spot deep (fits r s)
+        ∙ bar_nodes_full (fixed r).limits (rest_of (tokens_of r)) (fixed r).ending bs (record { tables = tables_of r; rule = rule; level = record { ended = ended; items = items }; outer = outer }) first.spot deep (fits r)
         (omega (arith, h.full, ap (λ M. length M.tables.nodes) (sequence_row items (tables_of r))))
         ∙ ap (λ n. refused (nodes_full n)) (sym h.told);
   }
 
   pub branch_read : (forest : Forest) (h : BranchEnded begin r.forest forest) (after : Words) (a : Advanced r.words after) → BranchRead begin r (record { words = after; names = r.names; kinds = r.kinds; forest = forest; lenders = r.lenders })
   branch_read forest h after a = record {
-    kept = grown_kept r s forest h.place h.healthy after a;
+    same = grown_same r forest h.place after a;
     node = row.at;
     more = h.more;
     shorter = omega (arith, ap length a.rest, rest_shorter (tokens_of r) (bar first.spot) first.first);
     goes =
         λ bs deep rule ended outer.
         fronted bs rule outer r (bar first.spot) (rest_of (tokens_of r)) (record { ended = ended; items = items }) first.first
-        ∙ bar_on (fixed r).limits (rest_of (tokens_of r)) (fixed r).ending bs (record { tables = tables_of r; rule = rule; level = record { ended = ended; items = items }; outer = outer }) first.spot deep (fits r s)
+        ∙ bar_on (fixed r).limits (rest_of (tokens_of r)) (fixed r).ending bs (record { tables = tables_of r; rule = rule; level = record { ended = ended; items = items }; outer = outer }) first.spot deep (fits r)
         (omega (arith, h.fits, ap length h.nodes, ap (λ M. length M.tables.nodes) (sequence_row items (tables_of r))))
-        ∙ moved bs rule outer r (record { words = after; names = r.names; kinds = r.kinds; forest = forest; lenders = r.lenders }) (end_sequence items (tables_of r)).tables (rest_of (tokens_of r)) (next_branch (record { ended = ended; items = items }) (end_sequence items (tables_of r)).at) (record { ended = ended ++ row.at ∷ []; items = [] }) (grown_same r s forest h.place h.healthy after a)
-        (ap (λ M. M.tables) (sequence_row items (tables_of r)) ∙ grown_tables r s forest h.place h.healthy after a row.nodes h.nodes) (sym a.rest)
+        ∙ moved bs rule outer r (record { words = after; names = r.names; kinds = r.kinds; forest = forest; lenders = r.lenders }) (end_sequence items (tables_of r)).tables (rest_of (tokens_of r)) (next_branch (record { ended = ended; items = items }) (end_sequence items (tables_of r)).at) (record { ended = ended ++ row.at ∷ []; items = [] }) (grown_same r forest h.place after a)
+        (ap (λ M. M.tables) (sequence_row items (tables_of r)) ∙ grown_tables r forest h.place after a row.nodes h.nodes) (sym a.rest)
         (ap (λ M. record { ended = ended ++ M.at ∷ []; items = [] }) (sequence_row items (tables_of r)));
   }
 
 -- the mark after branches
-module _ (r : Reader) (s : Sound r.names r.kinds r.forest.nodes r.forest.roots) (from begin : ℕ) where
+module _ (r : Reader) (from begin : ℕ) where
   abbrev level : Level
   level = level_at from begin (roots_of r.forest)
 
@@ -142,19 +131,19 @@ module _ (r : Reader) (s : Sound r.names r.kinds r.forest.nodes r.forest.roots) 
   full_told None first forest e h depth d =
       λ rule.
       fronted [] rule tt r (semi first.spot) rest level first.first
-      ∙ semi_nodes_full (fixed r).limits rest (fixed r).ending (record { tables = tables_of r; rule = rule; level = level; outer = tt }) first.spot (fits r s)
+      ∙ semi_nodes_full (fixed r).limits rest (fixed r).ending (record { tables = tables_of r; rule = rule; level = level; outer = tt }) first.spot (fits r)
       (omega (arith, h.full, ap (λ M. length M.tables.nodes) (level_row level.ended level.items (tables_of r))))
       ∙ ap (λ n. refused (nodes_full n)) (sym h.told)
   full_told (Some b) first forest e h depth d =
       λ bs deep rule around outer.
       fronted (bracket b ∷ bs) rule (around, outer) r (closing (bracket b) first.spot) rest level first.first
-      ∙ closing_nodes_full (fixed r).limits rest (fixed r).ending (bracket b) bs (record { tables = tables_of r; rule = rule; level = level; outer = (around, outer) }) first.spot (omega arith) (fits r s)
+      ∙ closing_nodes_full (fixed r).limits rest (fixed r).ending (bracket b) bs (record { tables = tables_of r; rule = rule; level = level; outer = (around, outer) }) first.spot (omega arith) (fits r)
       (omega (arith, h.full, ap (λ M. length M.tables.nodes) (closed_row b level.ended level.items (tables_of r))))
       ∙ ap (λ n. refused (nodes_full n)) (sym h.told)
 
   pub closed_full : (c : Option BracketOf) (first : MarkFirst r.words (closing_token c)) (forest : Forest) (e : Full) → Unfinished c from begin r.forest forest e
       → (depth : ℕ) → depth ≤ 32 → Unclosed c depth (level_at from begin (roots_of r.forest)) r (record { words = r.words; names = r.names; kinds = r.kinds; forest = forest; lenders = r.lenders }) (NodesFull e.limit)
-  closed_full c first forest e h depth d = record { same = half_same r s forest h.place; told = full_told c first forest e h depth d }
+  closed_full c first forest e h depth d = record { same = half_same r forest h.place; told = full_told c first forest e h depth d }
 
   closed_goes : (c : Option BracketOf) (first : MarkFirst r.words (closing_token c)) (forest : Forest) (n : ℕ) (h : Finished c from begin r.forest forest n) (after : Words) (a : Advanced r.words after)
       → (depth : ℕ) → depth ≤ 32 → EndedGoes c depth r (record { words = after; names = r.names; kinds = r.kinds; forest = forest; lenders = r.lenders }) (level_at from begin (roots_of r.forest)) n
@@ -162,11 +151,11 @@ module _ (r : Reader) (s : Sound r.names r.kinds r.forest.nodes r.forest.roots) 
       λ rule.
       let q : Reader = record { words = after; names = r.names; kinds = r.kinds; forest = forest; lenders = r.lenders } in
       let M : tables.Made = over_branches level.ended level.items (nodes_of r.forest) in
-      let same = grown_same r s forest h.place h.healthy after a in
+      let same = grown_same r forest h.place after a in
       let made : end_level level (tables_of r) ≡ record { tables = tables_of q; at = n } =
-      level_row level.ended level.items (tables_of r) ∙ made_same (made_in (tables_of r) M).tables (tables_of q) M.at n (grown_tables r s forest h.place h.healthy after a M.nodes h.nodes) (sym h.number) in
+      level_row level.ended level.items (tables_of r) ∙ made_same (made_in (tables_of r) M).tables (tables_of q) M.at n (grown_tables r forest h.place after a M.nodes h.nodes) (sym h.number) in
       fronted [] rule tt r (semi first.spot) rest level first.first
-      ∙ semi_on (fixed r).limits rest (fixed r).ending (record { tables = tables_of r; rule = rule; level = level; outer = tt }) first.spot (fits r s)
+      ∙ semi_on (fixed r).limits rest (fixed r).ending (record { tables = tables_of r; rule = rule; level = level; outer = tt }) first.spot (fits r)
       (omega (arith, h.fits, ap length h.nodes, ap (λ M. length M.tables.nodes) (level_row level.ended level.items (tables_of r))))
       ∙ ready_moved r q (rule_ended rule (end_level level (tables_of r))) (rule_ended rule (record { tables = tables_of q; at = n })) rest same (ap (rule_ended rule) made) (sym a.rest)
   closed_goes (Some b) first forest n h after a depth d =
@@ -176,15 +165,15 @@ module _ (r : Reader) (s : Sound r.names r.kinds r.forest.nodes r.forest.roots) 
       let ended : Made = end_group (bracket b) (end_level level (tables_of r)) in
       let row = closed_row b level.ended level.items (tables_of r) in
       fronted (bracket b ∷ bs) rule (around, outer) r (closing (bracket b) first.spot) rest level first.first
-      ∙ closing_on (fixed r).limits rest (fixed r).ending (bracket b) bs (record { tables = tables_of r; rule = rule; level = level; outer = (around, outer) }) first.spot (omega arith) (fits r s)
+      ∙ closing_on (fixed r).limits rest (fixed r).ending (bracket b) bs (record { tables = tables_of r; rule = rule; level = level; outer = (around, outer) }) first.spot (omega arith) (fits r)
       (omega (arith, h.fits, ap length h.nodes, ap (λ M. length M.tables.nodes) row))
-      ∙ moved bs rule outer r q ended.tables rest (one_more around ended.at) (one_more around n) (grown_same r s forest h.place h.healthy after a)
-      (ap (λ M. M.tables) row ∙ grown_tables r s forest h.place h.healthy after a M.nodes h.nodes) (sym a.rest) (ap (λ M. one_more around M.at) row ∙ ap (one_more around) (sym h.number))
+      ∙ moved bs rule outer r q ended.tables rest (one_more around ended.at) (one_more around n) (grown_same r forest h.place after a)
+      (ap (λ M. M.tables) row ∙ grown_tables r forest h.place after a M.nodes h.nodes) (sym a.rest) (ap (λ M. one_more around M.at) row ∙ ap (one_more around) (sym h.number))
 
   pub closed_read : (c : Option BracketOf) (first : MarkFirst r.words (closing_token c)) (forest : Forest) (n : ℕ) (h : Finished c from begin r.forest forest n) (after : Words) (a : Advanced r.words after)
       → (depth : ℕ) → depth ≤ 32 → Closed c depth (take from (roots_of r.forest)) (level_at from begin (roots_of r.forest)) r (record { words = after; names = r.names; kinds = r.kinds; forest = forest; lenders = r.lenders }) n
   closed_read c first forest n h after a depth d = record {
-    kept = grown_kept r s forest h.place h.healthy after a;
+    same = grown_same r forest h.place after a;
     roots_left = h.fewer;
     own = h.own;
     small = h.small;

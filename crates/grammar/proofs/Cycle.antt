@@ -3,8 +3,7 @@ use Rattle.std.proofs.Common.{◌≡◌, ℕ, ◌≤◌, List, [], ◌∷◌, �
 use Rattle.std.proofs.lemmas.List.{append-nil, append_assoc, take_all, take-append-le, drop_all, drop-append-le}
 use Rattle.grammar.specs.Bodies.{MarkFirst, level_at, BranchRead, BranchRefused, FitsDepth, EndedGoes, EndedRefused, Closed, Unclosed, SequenceRead}
 use Rattle.grammar.specs.Forest.{roots_of}
-use Rattle.grammar.specs.Reader.{text_of, tokens_of, Kept, standing}
-use Rattle.grammar.specs.Sound.{Sound}
+use Rattle.grammar.specs.Reader.{text_of, tokens_of, standing, fixed}
 use Rattle.grammar.specs.Refusals.{RefusedAs}
 use Rattle.grammar.specs.Words.{bracket, piece_token, word_spot, rest_of}
 use Rattle.grammar.specs.declared.piece.Bracket.{Bracket as BracketOf}
@@ -18,17 +17,14 @@ use Rattle.notation.specs.Tokens.{Bracket, bar}
 
 -- some branches have ended
 pub record BranchesOn (depth : ℕ) (before after : Reader) : Type 0 where
-  pub kept : Kept before after
+  pub same : fixed after ≡ fixed before
   pub ended : List ℕ
   pub more : roots_of after.forest ≡ roots_of before.forest ++ ended
   pub no_longer : length (tokens_of after) ≤ length (tokens_of before)
   pub goes : (bs : List Bracket) → length bs ≡ depth → (rule : ℕ) (outer : Levels bs) → standing before bs rule no_level outer ≡ standing after bs rule (record { ended = ended; items = [] }) outer
 
-pub no_branch_yet : (depth : ℕ) (r : Reader) → Sound r.names r.kinds r.forest.nodes r.forest.roots → BranchesOn depth r r
-no_branch_yet depth r s = record { kept = record { same = refl; sound = s }; ended = []; more = sym (append-nil (roots_of r.forest)); no_longer = omega arith; goes = λ bs deep rule outer. refl }
-
-pub kept_on : (r m n : Reader) → Kept r m → Kept m n → Kept r n
-kept_on r m n a b = record { same = b.same ∙ a.same; sound = b.sound }
+pub no_branch_yet : (depth : ℕ) (r : Reader) → BranchesOn depth r r
+no_branch_yet depth r = record { same = refl; ended = []; more = sym (append-nil (roots_of r.forest)); no_longer = omega arith; goes = λ bs deep rule outer. refl }
 
 pub refused_so : (e : Refusal) (o u : Outcome) → o ≡ u → RefusedAs e u → RefusedAs e o
 refused_so e o u p h = subst (RefusedAs e) (sym p) h
@@ -85,7 +81,7 @@ module _ (depth : ℕ) (r m n : Reader) (b : BranchesOn depth r m) (x : Word) (q
 
   pub branch_more : depth ≤ 32 → (after : Reader) → BranchRead begin n after → BranchesOn depth r after
   branch_more d after h = record {
-    kept = kept_on r n after (kept_on r m n b.kept q.on.kept) h.kept;
+    same = h.same ∙ q.on.same ∙ b.same;
     ended = b.ended ++ h.node ∷ [];
     more = h.more ∙ ap (λ l. l ++ h.node ∷ []) (ended_part ∙ b.more) ∙ append_assoc (roots_of r.forest) b.ended (h.node ∷ []);
     no_longer = omega (arith, h.shorter, q.on.no_longer, b.no_longer);
@@ -94,7 +90,7 @@ module _ (depth : ℕ) (r m n : Reader) (b : BranchesOn depth r m) (x : Word) (q
 
   pub branch_unclosed : (c : Option BracketOf) → FitsDepth c depth → (after : Reader) (e : Refusal) → BranchRefused begin n after e → Unclosed c depth no_level r after e
   branch_unclosed c d after e h = record {
-    same = h.same ∙ q.on.kept.same ∙ b.kept.same;
+    same = h.same ∙ q.on.same ∙ b.same;
     told =
         refused_within c depth no_level r e d
         (λ bs deep rule outer. refused_so e (standing r bs rule no_level outer) (standing n bs rule (record { ended = b.ended; items = drop begin (roots_of n.forest) }) outer) (to_items bs deep rule outer) (h.told bs (omega (arith, depth_fits c depth d)) rule b.ended outer));
@@ -117,7 +113,7 @@ module _ (depth : ℕ) (r m n : Reader) (b : BranchesOn depth r m) (x : Word) (q
   all_closed c d after (Ok k) h =
       let g = h depth (depth_fits c depth d) in
       record {
-        kept = kept_on r n after (kept_on r m n b.kept q.on.kept) g.kept;
+        same = g.same ∙ q.on.same ∙ b.same;
         roots_left = g.roots_left ∙ left_is;
         own = g.own;
         small = g.small;
@@ -126,4 +122,4 @@ module _ (depth : ℕ) (r m n : Reader) (b : BranchesOn depth r m) (x : Word) (q
       }
   all_closed c d after (Err e) h =
       let g = h depth (depth_fits c depth d) in
-      record { same = g.same ∙ q.on.kept.same ∙ b.kept.same; told = refused_to_end c d e g.told }
+      record { same = g.same ∙ q.on.same ∙ b.same; told = refused_to_end c d e g.told }

@@ -9,7 +9,7 @@ use Rattle.grammar.specs.Judged.{Lent, limits_of, held, Used, AsLong}
 use Rattle.grammar.specs.Notation.{notation_kinds}
 use Rattle.grammar.specs.Parts.{Reader}
 use Rattle.grammar.specs.Reader.{text_of, tokens_of, tables_of, fixed}
-use Rattle.grammar.specs.Sound.{zero_name, zero_spelling}
+use Rattle.grammar.specs.Sound.{Sound, zero_name, zero_spelling}
 use Rattle.grammar.specs.Rules.{at_rule, HeadRefused, AllRead}
 use Rattle.grammar.specs.Source.{source_token, sorted, ending_meant, scanned, grammar_tokens, grammar_ending}
 use Rattle.grammar.specs.declared.refusal.Refusal.{Refusal}
@@ -90,14 +90,14 @@ module _ (r : Reader) (s : Layered (map Some notation_kinds) r.words.text.now r.
           (ap (λ t. map (kind_meant t) (entries q.kinds)) same_text ∙ ap (map (kind_meant text)) (part q.kinds kinds kk))
           (part q.forest.nodes nodes kd)
 
-      pub filled : AllRead r q → Filled r.words.text.now (behind r.names r.kinds r.forest.nodes) (behind q.names q.kinds q.forest.nodes) (record { names = names; kinds = kinds; nodes = nodes })
-      filled h = record {
+      pub filled : Sound q.names q.kinds q.forest.nodes q.forest.roots → AllRead r q → Filled r.words.text.now (behind r.names r.kinds r.forest.nodes) (behind q.names q.kinds q.forest.nodes) (record { names = names; kinds = kinds; nodes = nodes })
+      filled holds h = record {
         short = s.short;
-        all_read = sym start ∙ h.outcome ∙ ap read (tables_held h.kept.same);
+        all_read = sym start ∙ h.outcome ∙ ap read (tables_held h.same);
         used = record {
-          names = used q.names names zero_name kn h.kept.sound.names_clean;
-          kinds = used q.kinds kinds zero_spelling kk h.kept.sound.kinds_clean;
-          nodes = used q.forest.nodes nodes zero_node kd h.kept.sound.healthy.clean;
+          names = used q.names names zero_name kn holds.names_clean;
+          kinds = used q.kinds kinds zero_spelling kk holds.kinds_clean;
+          nodes = used q.forest.nodes nodes zero_node kd holds.healthy.clean;
         };
-        long = long h.kept.same;
+        long = long h.same;
       }

@@ -1,11 +1,10 @@
 -- Names and terminals as items of a sequence.
 use Rattle.std.proofs.Common.{◌≡◌, ℕ, suc, ◌+◌, ◌<◌, ◌≤◌, false, not, List, [], ◌∷◌, map, length, sym, refl, ap, ◌∙◌, arith, length-append}
-use Rattle.grammar.proofs.Counted.{name_number, names_are, names_fit, names_clean, names_over, kind_number, kinds_are, kinds_fit, kinds_clean, kinds_over}
+use Rattle.grammar.proofs.Counted.{name_number, names_are, names_fit, names_over, kind_number, kinds_are, kinds_fit, kinds_over}
 use Rattle.grammar.proofs.Moves.{fixed_same, fits, moved, fronted, tables_same}
 use Rattle.grammar.proofs.Rooting.{kept_place}
-use Rattle.grammar.specs.Forest.{nodes_of, MadeOne, MadeNone}
+use Rattle.grammar.specs.Forest.{nodes_of, roots_of, MadeOne, MadeNone}
 use Rattle.grammar.specs.Reader.{text_of, tokens_of, tables_of, fixed, NamedFirst, SpellingFirst, TerminalFirst, NodeRead, ItemRefused}
-use Rattle.grammar.specs.Sound.{zero_name, zero_spelling, Sound}
 use Rattle.grammar.specs.Words.{word_spot, piece_token, rest_of, Advanced}
 use Rattle.grammar.specs.Trees.{Forest}
 use Rattle.grammar.specs.Parts.{Reader}
@@ -33,7 +32,7 @@ rest_shorter ts t e = omega (arith, ap length e)
 one_add_right : (i : ℕ) → i + 1 ≡ suc i
 one_add_right i = omega arith
 
-module _ (r : Reader) (s : Sound r.names r.kinds r.forest.nodes r.forest.roots) (x : Word) where
+module _ (r : Reader) (x : Word) where
   abbrev spot : Spot
   spot = word_spot (text_of r) x
 
@@ -68,7 +67,7 @@ module _ (r : Reader) (s : Sound r.names r.kinds r.forest.nodes r.forest.roots) 
         told =
             λ bs deep rule l outer.
             fronted bs rule outer r (name spot) (rest_of (tokens_of r)) l name_first
-            ∙ name_nodes_full (fixed r).limits (rest_of (tokens_of r)) (fixed r).ending bs (record { tables = tables_of r; rule = rule; level = l; outer = outer }) spot (omega arith) (fits r s) few_names h.full
+            ∙ name_nodes_full (fixed r).limits (rest_of (tokens_of r)) (fixed r).ending bs (record { tables = tables_of r; rule = rule; level = l; outer = outer }) spot (omega arith) (fits r) few_names h.full
             ∙ ap (λ n. refused (nodes_full n)) (sym h.told);
       }
 
@@ -86,24 +85,17 @@ module _ (r : Reader) (s : Sound r.names r.kinds r.forest.nodes r.forest.roots) 
             (ap (λ t. map (kind_meant t) (entries r.kinds)) (sym a.text_same))
             (ap (λ k. add class_is.Name k 1024 (nodes_of r.forest)) (sym (name_number (text_of r) r.names names name_entry refl i m)) ∙ sym h.nodes)
 
-        pub name_read : (depth : ℕ) → depth ≤ 32 → NodeRead depth r (record { words = after; names = names; kinds = r.kinds; forest = forest; lenders = r.lenders }) n
-        name_read depth d = record {
-          kept = record {
-            same = same;
-            sound = record {
-              names_clean = names_clean (text_of r) r.names names name_entry refl i m zero_name s.names_clean;
-              kinds_clean = s.kinds_clean;
-              healthy = h.healthy;
-            };
-          };
+        pub name_read : (few : length (roots_of r.forest) ≤ length (nodes_of r.forest)) (depth : ℕ) → depth ≤ 32 → NodeRead depth r (record { words = after; names = names; kinds = r.kinds; forest = forest; lenders = r.lenders }) n
+        name_read few depth d = record {
+          same = same;
           same_roots = h.same_roots;
-          own = omega (arith, ap length h.same_roots, ap length h.nodes, length-append (nodes_of r.forest) (record { class = class_is.Name; value = i; first = 1024; next = 1024 } ∷ []), s.healthy.few);
+          own = omega (arith, ap length h.same_roots, ap length h.nodes, length-append (nodes_of r.forest) (record { class = class_is.Name; value = i; first = 1024; next = 1024 } ∷ []), few);
           small = omega (arith, h.number, h.room);
           shorter = omega (arith, ap length a.rest, rest_shorter (tokens_of r) (name spot) name_first);
           goes =
               λ bs deep rule l outer.
               fronted bs rule outer r (name spot) (rest_of (tokens_of r)) l name_first
-              ∙ name_on (fixed r).limits (rest_of (tokens_of r)) (fixed r).ending bs (record { tables = tables_of r; rule = rule; level = l; outer = outer }) spot (omega arith) (fits r s) few_names h.room
+              ∙ name_on (fixed r).limits (rest_of (tokens_of r)) (fixed r).ending bs (record { tables = tables_of r; rule = rule; level = l; outer = outer }) spot (omega arith) (fits r) few_names h.room
               ∙ moved bs rule outer r q (make_name spot (tables_of r)).tables (rest_of (tokens_of r)) (one_more l (make_name spot (tables_of r)).at) (one_more l n) same tables (sym a.rest) (ap (one_more l) (sym h.number));
         }
 
@@ -115,7 +107,7 @@ module _ (r : Reader) (s : Sound r.names r.kinds r.forest.nodes r.forest.roots) 
       told =
           λ bs deep rule l outer.
           fronted bs rule outer r (terminal first.sort spot) (rest_of (tokens_of r)) l first.first
-          ∙ terminal_kinds_full (fixed r).limits (rest_of (tokens_of r)) (fixed r).ending bs (record { tables = tables_of r; rule = rule; level = l; outer = outer }) first.sort spot (omega arith) (fits r s) first.spelt (kinds_over (text_of r) r.kinds kinds kind_entry e m);
+          ∙ terminal_kinds_full (fixed r).limits (rest_of (tokens_of r)) (fixed r).ending bs (record { tables = tables_of r; rule = rule; level = l; outer = outer }) first.sort spot (omega arith) (fits r) first.spelt (kinds_over (text_of r) r.kinds kinds kind_entry e m);
     }
 
     module _ (kinds : Filling Spelling 120) (i : ℕ) (m : Numbered (λ e. e.place) (λ e. e.length) (text_of r) (record { place = x.place; length = x.length }) r.kinds kinds i) (loan : kinds.table.ghost_name ≡ r.kinds.table.ghost_name) where
@@ -129,7 +121,7 @@ module _ (r : Reader) (s : Sound r.names r.kinds r.forest.nodes r.forest.roots) 
         told =
             λ bs deep rule l outer.
             fronted bs rule outer r (terminal first.sort spot) (rest_of (tokens_of r)) l first.first
-            ∙ terminal_nodes_full (fixed r).limits (rest_of (tokens_of r)) (fixed r).ending bs (record { tables = tables_of r; rule = rule; level = l; outer = outer }) first.sort spot (omega arith) (fits r s) first.spelt few_kinds h.full
+            ∙ terminal_nodes_full (fixed r).limits (rest_of (tokens_of r)) (fixed r).ending bs (record { tables = tables_of r; rule = rule; level = l; outer = outer }) first.sort spot (omega arith) (fits r) first.spelt few_kinds h.full
             ∙ ap (λ n. refused (nodes_full n)) (sym h.told);
       }
 
@@ -147,24 +139,17 @@ module _ (r : Reader) (s : Sound r.names r.kinds r.forest.nodes r.forest.roots) 
             (sym (kinds_are (text_of r) r.kinds kinds kind_entry i m) ∙ ap (λ t. map (kind_meant t) (entries kinds)) (sym a.text_same))
             (ap (λ k. add class_is.Token k 1024 (nodes_of r.forest)) (sym (one_add_right i ∙ ap suc (kind_number (text_of r) r.kinds kinds kind_entry i m))) ∙ sym h.nodes)
 
-        pub token_read : (depth : ℕ) → depth ≤ 32 → NodeRead depth r (record { words = after; names = r.names; kinds = kinds; forest = forest; lenders = r.lenders }) n
-        token_read depth d = record {
-          kept = record {
-            same = token_same;
-            sound = record {
-              names_clean = s.names_clean;
-              kinds_clean = kinds_clean (text_of r) r.kinds kinds kind_entry i m zero_spelling s.kinds_clean;
-              healthy = h.healthy;
-            };
-          };
+        pub token_read : (few : length (roots_of r.forest) ≤ length (nodes_of r.forest)) (depth : ℕ) → depth ≤ 32 → NodeRead depth r (record { words = after; names = r.names; kinds = kinds; forest = forest; lenders = r.lenders }) n
+        token_read few depth d = record {
+          same = token_same;
           same_roots = h.same_roots;
-          own = omega (arith, ap length h.same_roots, ap length h.nodes, length-append (nodes_of r.forest) (record { class = class_is.Token; value = i + 1; first = 1024; next = 1024 } ∷ []), s.healthy.few);
+          own = omega (arith, ap length h.same_roots, ap length h.nodes, length-append (nodes_of r.forest) (record { class = class_is.Token; value = i + 1; first = 1024; next = 1024 } ∷ []), few);
           small = omega (arith, h.number, h.room);
           shorter = omega (arith, ap length a.rest, rest_shorter (tokens_of r) (terminal first.sort spot) first.first);
           goes =
               λ bs deep rule l outer.
               fronted bs rule outer r (terminal first.sort spot) (rest_of (tokens_of r)) l first.first
-              ∙ terminal_on (fixed r).limits (rest_of (tokens_of r)) (fixed r).ending bs (record { tables = tables_of r; rule = rule; level = l; outer = outer }) first.sort spot (omega arith) (fits r s) first.spelt few_kinds h.room
+              ∙ terminal_on (fixed r).limits (rest_of (tokens_of r)) (fixed r).ending bs (record { tables = tables_of r; rule = rule; level = l; outer = outer }) first.sort spot (omega arith) (fits r) first.spelt few_kinds h.room
               ∙ moved bs rule outer r q_token (make_token spot (tables_of r)).tables (rest_of (tokens_of r)) (one_more l (make_token spot (tables_of r)).at) (one_more l n) token_same token_tables (sym a.rest) (ap (one_more l) (sym h.number));
         }
 

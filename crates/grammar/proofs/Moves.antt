@@ -3,7 +3,6 @@ use Rattle.std.proofs.Common.{◌≡◌, ℕ, min, List, ◌∷◌, sym, ap, ◌
 use lib.ListN.{length-map}
 use Rattle.grammar.specs.Forest.{Place, place}
 use Rattle.grammar.specs.Reader.{text_of, tokens_of, tables_of, Fixed, fixed, standing}
-use Rattle.grammar.specs.Sound.{Sound}
 use Rattle.grammar.specs.Words as words
 use Rattle.grammar.specs.Words.{Advanced}
 use Rattle.grammar.specs.declared.words.Words.{Words}
@@ -40,11 +39,11 @@ fixed_same r q text e names kinds nodes lenders =
     ∙ ap (λ x. fixed_by (text_of r) (words.ending r.words) (place r.names) (place r.kinds) (place r.forest.nodes) x) lenders
 
 -- the tables of a reader are within their limits
-pub fits : (r : Reader) → Sound r.names r.kinds r.forest.nodes r.forest.roots → Fits (fixed r).limits (tables_of r)
-fits r s = record {
+pub fits : (r : Reader) → Fits (fixed r).limits (tables_of r)
+fits r = record {
   names = omega (arith, length-map (entries r.names) (name_meant (text_of r)), length-take r.names.count r.names.table.now, r.names.within, r.names.few);
   kinds = omega (arith, length-map (entries r.kinds) (kind_meant (text_of r)), length-take r.kinds.count r.kinds.table.now, r.kinds.within, r.kinds.few);
-  nodes = s.healthy.fit;
+  nodes = omega (arith, length-take r.forest.nodes.count r.forest.nodes.table.now, r.forest.nodes.within, r.forest.nodes.few);
 }
 
 -- the automaton goes on from what the reader has come to

@@ -1,16 +1,15 @@
 -- Rules, one after another.
 use Rattle.std.proofs.Common.{◌≡◌, ℕ, zero, suc, ◌<◌, ◌≤◌, true, false, List, [], ◌∷◌, map, length, None, sym, refl, ap, ◌∙◌, subst, ⊎_elim, arith, Ok, Err, Result, MatchResult}
 use lib.ListN.{length-map}
-use Rattle.grammar.proofs.Closing.{grown_same, grown_kept, grown_tables}
-use Rattle.grammar.proofs.Counted.{name_number, names_are, names_fit, names_clean, names_over}
-use Rattle.grammar.proofs.Cycle.{kept_on, refused_so}
+use Rattle.grammar.proofs.Closing.{grown_same, grown_tables}
+use Rattle.grammar.proofs.Counted.{name_number, names_are, names_fit, names_over}
+use Rattle.grammar.proofs.Cycle.{refused_so}
 use Rattle.grammar.proofs.Leaves.{rest_shorter}
 use Rattle.grammar.proofs.Moves.{fixed_same, fits, tables_same}
-use Rattle.grammar.proofs.Rooting.{kept_place, still_clean}
+use Rattle.grammar.proofs.Rooting.{kept_place}
 use Rattle.grammar.specs.Bodies.{Closed}
 use Rattle.grammar.specs.Forest.{nodes_of, roots_of}
-use Rattle.grammar.specs.Reader.{text_of, tokens_of, tables_of, fixed, Kept}
-use Rattle.grammar.specs.Sound.{zero_name, Sound}
+use Rattle.grammar.specs.Reader.{text_of, tokens_of, tables_of, fixed}
 use Rattle.grammar.specs.Refusals.{RefusedAs}
 use Rattle.grammar.specs.Rules.{at_rule, at_arrow, HeadRead, HeadRefused, ArrowRead, ArrowRefused, RuleRead, NamesRuled, NamesLack, AllRead}
 use Rattle.grammar.specs.Words.{piece_token, word_spot, rest_of, WordTold, Advanced}
@@ -79,26 +78,26 @@ module _ (r : Reader) (x : Word) (first : WordTold r.words x) where
   arrow_misplaced ne = record { same = refl; told = λ rule. arrow_front r rule (piece_token x.piece spot) rest first ∙ heading_told (fixed r).limits rest (fixed r).ending spot (record { tables = tables_of r; rule = rule }) x.piece ne }
 
   -- an arrow
-  pub arrow_read : Sound r.names r.kinds r.forest.nodes r.forest.roots → x.piece ≡ piece_is.Arrow → (after : Words) (a : Advanced r.words after) → ArrowRead r (record { words = after; names = r.names; kinds = r.kinds; forest = r.forest; lenders = r.lenders })
-  arrow_read s e after a =
+  pub arrow_read : x.piece ≡ piece_is.Arrow → (after : Words) (a : Advanced r.words after) → ArrowRead r (record { words = after; names = r.names; kinds = r.kinds; forest = r.forest; lenders = r.lenders })
+  arrow_read e after a =
       let q : Reader = record { words = after; names = r.names; kinds = r.kinds; forest = r.forest; lenders = r.lenders } in
       let front : tokens_of r ≡ arrow spot ∷ rest = first ∙ ap (λ k. piece_token k spot ∷ rest) e in
-      let same : fixed q ≡ fixed r = grown_same r s r.forest refl s.healthy after a in
-      let tables : tables_of r ≡ tables_of q = grown_tables r s r.forest refl s.healthy after a (nodes_of r.forest) refl in
+      let same : fixed q ≡ fixed r = grown_same r r.forest refl after a in
+      let tables : tables_of r ≡ tables_of q = grown_tables r r.forest refl after a (nodes_of r.forest) refl in
       record {
-        kept = grown_kept r s r.forest refl s.healthy after a;
+        same = same;
         shorter = omega (arith, ap length a.rest, rest_shorter (tokens_of r) (arrow spot) front);
         goes =
             λ rule.
             arrow_front r rule (arrow spot) rest front
-            ∙ arrow_on (fixed r).limits rest (fixed r).ending (record { tables = tables_of r; rule = rule }) spot (fits r s)
+            ∙ arrow_on (fixed r).limits rest (fixed r).ending (record { tables = tables_of r; rule = rule }) spot (fits r)
             ∙ ap (λ f. run f.limits (inside []) (record { tables = tables_of r; rule = rule; level = no_level; outer = tt }) rest f.ending) (sym same)
             ∙ ap (λ T. run (fixed q).limits (inside []) (record { tables = T; rule = rule; level = no_level; outer = tt }) rest (fixed q).ending) tables
             ∙ ap (λ ts. run (fixed q).limits (inside []) (record { tables = tables_of q; rule = rule; level = no_level; outer = tt }) ts (fixed q).ending) (sym a.rest);
       }
 
   -- the name of a rule
-  module _ (s : Sound r.names r.kinds r.forest.nodes r.forest.roots) (e : x.piece ≡ piece_is.Name) where
+  module _ (e : x.piece ≡ piece_is.Name) where
     abbrev entry : Name
     entry = record { place = x.place; length = x.length; root = 1024 }
 
@@ -123,7 +122,7 @@ module _ (r : Reader) (x : Word) (first : WordTold r.words x) where
       pub head_again : ruled i (entries names) ≡ true → HeadRefused r (record { words = r.words; names = names; kinds = r.kinds; forest = r.forest; lenders = r.lenders }) (refusal_is.SecondRule x.place)
       head_again h = record {
         same = fixed_same r (record { words = r.words; names = names; kinds = r.kinds; forest = r.forest; lenders = r.lenders }) refl refl (kept_place r.names names m.kept loan) refl refl refl;
-        told = ready_front r (name spot) rest name_front ∙ head_second_rule (fixed r).limits rest (fixed r).ending (tables_of r) spot (fits r s) few (sym has_it ∙ h);
+        told = ready_front r (name spot) rest name_front ∙ head_second_rule (fixed r).limits rest (fixed r).ending (tables_of r) spot (fits r) few (sym has_it ∙ h);
       }
 
       pub head_read : ruled i (entries names) ≡ false → (after : Words) (a : Advanced r.words after) → HeadRead r (record { words = after; names = names; kinds = r.kinds; forest = r.forest; lenders = r.lenders }) i
@@ -135,18 +134,11 @@ module _ (r : Reader) (x : Word) (first : WordTold r.words x) where
           (sym (names_are (text_of r) r.names names entry refl i m) ∙ ap (λ t. map (name_meant t) (entries names)) (sym a.text_same))
           (ap (λ t. map (kind_meant t) (entries r.kinds)) (sym a.text_same)) refl in
           record {
-            kept = record {
-              same = same;
-              sound = record {
-                names_clean = names_clean (text_of r) r.names names entry refl i m zero_name s.names_clean;
-                kinds_clean = s.kinds_clean;
-                healthy = s.healthy;
-              };
-            };
+            same = same;
             shorter = omega (arith, ap length a.rest, rest_shorter (tokens_of r) (name spot) name_front);
             goes =
                 ready_front r (name spot) rest name_front
-                ∙ head_on (fixed r).limits rest (fixed r).ending (tables_of r) spot (fits r s) few (sym has_it ∙ h)
+                ∙ head_on (fixed r).limits rest (fixed r).ending (tables_of r) spot (fits r) few (sym has_it ∙ h)
                 ∙ ap (λ f. run f.limits heading (record { tables = name_known spot (tables_of r); rule = find_name spot.bytes (tables_of r).names }) rest f.ending) (sym same)
                 ∙ ap (λ T. run (fixed q).limits heading (record { tables = T; rule = find_name spot.bytes (tables_of r).names }) rest (fixed q).ending) tables
                 ∙ ap (λ k. run (fixed q).limits heading (record { tables = tables_of q; rule = k }) rest (fixed q).ending) (sym (name_number (text_of r) r.names names entry refl i m))
@@ -154,7 +146,7 @@ module _ (r : Reader) (x : Word) (first : WordTold r.words x) where
           }
 
 -- a rule with its root
-module _ (m : Reader) (s : Sound m.names m.kinds m.forest.nodes m.forest.roots) (i n : ℕ) (small : n < 1024) (names : Filling Name 64) (list : entries names ≡ rooted i n (entries m.names)) (kept : RestKept m.names names) (loan : names.table.ghost_name ≡ m.names.table.ghost_name) where
+module _ (m : Reader) (i n : ℕ) (small : n < 1024) (names : Filling Name 64) (list : entries names ≡ rooted i n (entries m.names)) (kept : RestKept m.names names) (loan : names.table.ghost_name ≡ m.names.table.ghost_name) where
   abbrev rooted_reader : Reader
   rooted_reader = record { words = m.words; names = names; kinds = m.kinds; forest = m.forest; lenders = m.lenders }
 
@@ -163,21 +155,14 @@ module _ (m : Reader) (s : Sound m.names m.kinds m.forest.nodes m.forest.roots) 
       ap (λ ns. record { names = ns; kinds = (tables_of m).kinds; nodes = (tables_of m).nodes })
       (sym (name_rooted (text_of m) (entries m.names) i n (λ e. omega arith)) ∙ ap (map (name_meant (text_of m))) (sym list))
 
-  rooted_kept : Kept m (record { words = m.words; names = names; kinds = m.kinds; forest = m.forest; lenders = m.lenders })
-  rooted_kept = record {
-    same = fixed_same m rooted_reader refl refl (kept_place m.names names kept loan) refl refl refl;
-    sound = record {
-      names_clean = still_clean m.names names zero_name kept s.names_clean;
-      kinds_clean = s.kinds_clean;
-      healthy = s.healthy;
-    };
-  }
+  rooted_same : fixed (record { words = m.words; names = names; kinds = m.kinds; forest = m.forest; lenders = m.lenders }) ≡ fixed m
+  rooted_same = fixed_same m rooted_reader refl refl (kept_place m.names names kept loan) refl refl refl
 
   pub rule_rooted : (r a b : Reader) → HeadRead r a i → ArrowRead a b → Closed None 0 (roots_of b.forest) no_level b m n → RuleRead r (record { words = m.words; names = names; kinds = m.kinds; forest = m.forest; lenders = m.lenders })
   rule_rooted r a b head mid closed =
-      let same = rooted_kept.same in
+      let same = rooted_same in
       record {
-        kept = kept_on r m rooted_reader (kept_on r b m (kept_on r a b head.kept mid.kept) closed.kept) rooted_kept;
+        same = same ∙ closed.same ∙ mid.same ∙ head.same;
         shorter = omega (arith, head.shorter, mid.shorter, closed.shorter);
         goes =
             head.goes ∙ mid.goes i ∙ closed.goes i
@@ -215,14 +200,14 @@ module _ (r : Reader) (p : ℕ) (none : tokens_of r ≡ []) (ended : words.endin
 
 -- some rules are read
 pub record RulesOn (before after : Reader) : Type 0 where
-  pub kept : Kept before after
+  pub same : fixed after ≡ fixed before
   pub goes : at_rule before ≡ at_rule after
 
 all_read : (r m : Reader) → RulesOn r m → at_rule m ≡ read (tables_of m) → AllRead r m
-all_read r m on h = record { kept = on.kept; outcome = on.goes ∙ h }
+all_read r m on h = record { same = on.same; outcome = on.goes ∙ h }
 
 rules_refused : (r m n : Reader) (e : Refusal) → RulesOn r m → HeadRefused m n e → HeadRefused r n e
-rules_refused r m n e on h = record { same = h.same ∙ on.kept.same; told = refused_so e (at_rule r) (at_rule m) on.goes h.told }
+rules_refused r m n e on h = record { same = h.same ∙ on.same; told = refused_so e (at_rule r) (at_rule m) on.goes h.told }
 
 -- the end of the text as it is told
 pub end_told : (r m : Reader) (p : ℕ) → RulesOn r m → tokens_of m ≡ [] → words.ending m.words ≡ end p → (x : Result Unit Refusal) → MatchResult x (λ _. NamesRuled (entries m.names)) (NamesLack p (entries m.names)) → MatchResult x (λ _. AllRead r m) (HeadRefused r m)

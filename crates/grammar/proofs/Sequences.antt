@@ -1,14 +1,13 @@
 -- The items of a sequence, one after another, and groups among them.
 use Rattle.std.proofs.Common.{◌≡◌, ℕ, ◌+◌, ◌<◌, List, [], ◌∷◌, ◌++◌, length, Some, sym, refl, ap, ◌∙◌, arith}
 use Rattle.std.proofs.lemmas.List.{append-nil, append_assoc}
-use Rattle.grammar.proofs.Closing.{grown_same, grown_kept, grown_tables}
-use Rattle.grammar.proofs.Cycle.{kept_on, refused_so}
+use Rattle.grammar.proofs.Closing.{grown_same, grown_tables}
+use Rattle.grammar.proofs.Cycle.{refused_so}
 use Rattle.grammar.proofs.Leaves.{rest_shorter}
 use Rattle.grammar.proofs.Moves.{fits, fixed_same, moved, fronted}
 use Rattle.grammar.specs.Bodies.{Closed, Unclosed, with_items, SequenceOn}
 use Rattle.grammar.specs.Forest.{nodes_of, roots_of, Pushed}
 use Rattle.grammar.specs.Reader.{text_of, tokens_of, tables_of, fixed, standing, NodeRead, ItemRefused}
-use Rattle.grammar.specs.Sound.{Sound}
 use Rattle.grammar.specs.Words.{bracket, piece_token, word_spot, rest_of, WordTold, Advanced}
 use Rattle.grammar.specs.Trees.{Forest}
 use Rattle.grammar.specs.declared.piece.Bracket.{Bracket as BracketOf}
@@ -24,9 +23,9 @@ use Rattle.notation.specs.Reading.{Levels}
 use Rattle.notation.specs.Tokens.{Bracket, Spot, Token, opening, arrow}
 use Rattle.notation.proofs.Steps.{opening_on, opening_too_deep, arrow_misplaced}
 
-pub no_item_yet : (depth : ℕ) (r : Reader) → Sound r.names r.kinds r.forest.nodes r.forest.roots → SequenceOn depth r r
-no_item_yet depth r s = record {
-  kept = record { same = refl; sound = s };
+pub no_item_yet : (depth : ℕ) (r : Reader) → SequenceOn depth r r
+no_item_yet depth r = record {
+  same = refl;
   items = [];
   more = sym (append-nil (roots_of r.forest));
   no_longer = omega arith;
@@ -40,14 +39,7 @@ item_more depth r m n forest k q h p =
     let same : fixed now ≡ fixed n = fixed_same n now refl refl refl refl p.place refl in
     let tables : tables_of n ≡ tables_of now = ap (λ ns. record { names = (tables_of n).names; kinds = (tables_of n).kinds; nodes = ns }) (sym p.nodes) in
     record {
-      kept = record {
-        same = same ∙ h.kept.same ∙ q.kept.same;
-        sound = record {
-          names_clean = h.kept.sound.names_clean;
-          kinds_clean = h.kept.sound.kinds_clean;
-          healthy = p.healthy;
-        };
-      };
+      same = same ∙ h.same ∙ q.same;
       items = q.items ++ k ∷ [];
       more = p.more ∙ ap (λ l. l ++ k ∷ []) (h.same_roots ∙ q.more) ∙ append_assoc (roots_of r.forest) q.items (k ∷ []);
       no_longer = omega (arith, h.shorter, q.no_longer);
@@ -86,7 +78,7 @@ module _ (depth : ℕ) (r : Reader) (x : Word) (first : WordTold r.words x) wher
           fronted bs rule outer r (opening (bracket b) spot) rest l (first_is (piece_is.Opening b) e) ∙ opening_too_deep (fixed r).limits rest (fixed r).ending bs (record { tables = tables_of r; rule = rule; level = l; outer = outer }) (bracket b) spot (deep ∙ full);
     }
 
-    module _ (s : Sound r.names r.kinds r.forest.nodes r.forest.roots) (room : depth < 32) (after : Words) (a : Advanced r.words after) where
+    module _ (room : depth < 32) (after : Words) (a : Advanced r.words after) where
       abbrev within : Reader
       within = record { words = after; names = r.names; kinds = r.kinds; forest = r.forest; lenders = r.lenders }
 
@@ -97,12 +89,12 @@ module _ (depth : ℕ) (r : Reader) (x : Word) (first : WordTold r.words x) wher
       to_within : (bs : List Bracket) → length bs ≡ depth → (rule : ℕ) (l : Level) (outer : Levels bs) → standing r bs rule l outer ≡ standing (record { words = after; names = r.names; kinds = r.kinds; forest = r.forest; lenders = r.lenders }) (bracket b ∷ bs) rule no_level (l, outer)
       to_within bs deep rule l outer =
           fronted bs rule outer r (opening (bracket b) spot) rest l (first_is (piece_is.Opening b) e)
-          ∙ opening_on (fixed r).limits rest (fixed r).ending bs (record { tables = tables_of r; rule = rule; level = l; outer = outer }) (bracket b) spot (omega arith) (fits r s)
-          ∙ moved (bracket b ∷ bs) rule (l, outer) r within (tables_of r) rest no_level no_level (grown_same r s r.forest refl s.healthy after a) (grown_tables r s r.forest refl s.healthy after a (nodes_of r.forest) refl) (sym a.rest) refl
+          ∙ opening_on (fixed r).limits rest (fixed r).ending bs (record { tables = tables_of r; rule = rule; level = l; outer = outer }) (bracket b) spot (omega arith) (fits r)
+          ∙ moved (bracket b ∷ bs) rule (l, outer) r within (tables_of r) rest no_level no_level (grown_same r r.forest refl after a) (grown_tables r r.forest refl after a (nodes_of r.forest) refl) (sym a.rest) refl
 
       pub group_read : (n : Reader) (k : ℕ) → Closed (Some b) (depth + 1) (roots_of r.forest) no_level (record { words = after; names = r.names; kinds = r.kinds; forest = r.forest; lenders = r.lenders }) n k → NodeRead depth r n k
       group_read n k h = record {
-        kept = kept_on r within n (grown_kept r s r.forest refl s.healthy after a) h.kept;
+        same = h.same ∙ grown_same r r.forest refl after a;
         same_roots = h.roots_left;
         own = h.own;
         small = h.small;
@@ -112,6 +104,6 @@ module _ (depth : ℕ) (r : Reader) (x : Word) (first : WordTold r.words x) wher
 
       pub group_unread : (n : Reader) (x : Refusal) → Unclosed (Some b) (depth + 1) no_level (record { words = after; names = r.names; kinds = r.kinds; forest = r.forest; lenders = r.lenders }) n x → ItemRefused depth r n x
       group_unread n x h = record {
-        same = h.same ∙ grown_same r s r.forest refl s.healthy after a;
+        same = h.same ∙ grown_same r r.forest refl after a;
         told = λ bs deep rule l outer. refused_so x (standing r bs rule l outer) (standing within (bracket b ∷ bs) rule no_level (l, outer)) (to_within bs deep rule l outer) (h.told bs (omega arith) rule l outer);
       }

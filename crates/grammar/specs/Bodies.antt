@@ -1,7 +1,7 @@
 -- How branches and sequences are read.
 use Rattle.std.specs.Prelude.{◌≡◌, ℕ, suc, ◌<◌, ◌≤◌, List, [], ◌∷◌, ◌++◌, length, take, drop, Some, None, Option}
 use Rattle.grammar.specs.Forest.{nodes_of, roots_of}
-use Rattle.grammar.specs.Reader.{tokens_of, tables_of, fixed, Kept, standing, standing_ready, Ends}
+use Rattle.grammar.specs.Reader.{tokens_of, tables_of, fixed, standing, standing_ready, Ends}
 use Rattle.grammar.specs.Refusals.{RefusedAs}
 use Rattle.grammar.specs.Words.{bracket, tokens, rest_of, WordTold}
 use Rattle.grammar.specs.declared.piece.Bracket.{Bracket as BracketOf}
@@ -35,7 +35,7 @@ level_at from begin ns = record { ended = drop from (take begin ns); items = dro
 
 -- a sequence has ended at a bar
 pub record BranchRead (begin : ℕ) (before after : Reader) : Type 0 where
-  pub kept : Kept before after
+  pub same : fixed after ≡ fixed before
   pub node : ℕ
   pub more : roots_of after.forest ≡ take begin (roots_of before.forest) ++ node ∷ []
   pub shorter : length (tokens_of after) < length (tokens_of before)
@@ -65,7 +65,7 @@ EndedRefused (Some b) depth before l e =
     (bs : List Bracket) → suc (length bs) ≡ depth → (rule : ℕ) (around : Level) (outer : Levels bs) → RefusedAs e (standing before (bracket b ∷ bs) rule l (around, outer))
 
 pub record Closed (c : Option BracketOf) (depth : ℕ) (left : List ℕ) (l : Level) (before after : Reader) (n : ℕ) : Type 0 where
-  pub kept : Kept before after
+  pub same : fixed after ≡ fixed before
   pub roots_left : roots_of after.forest ≡ left
   pub own : length (roots_of after.forest) < length (nodes_of after.forest)
   pub small : n < 1024
@@ -81,7 +81,7 @@ abbrev pub with_items : Level → List ℕ → Level
 with_items l ns = record { ended = l.ended; items = l.items ++ ns }
 
 pub record SequenceOn (depth : ℕ) (before after : Reader) : Type 0 where
-  pub kept : Kept before after
+  pub same : fixed after ≡ fixed before
   pub items : List ℕ
   pub more : roots_of after.forest ≡ roots_of before.forest ++ items
   pub no_longer : length (tokens_of after) ≤ length (tokens_of before)

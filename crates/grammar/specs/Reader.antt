@@ -1,8 +1,7 @@
 -- What a reader of the notation has read and has to read.
 use Rattle.std.specs.Prelude.{◌≡◌, ℕ, ◌<◌, false, List, ◌∷◌, length}
-use Rattle.grammar.specs.Forest.{nodes_of, roots_of, limit_of, Place, place, Clean, Healthy}
+use Rattle.grammar.specs.Forest.{nodes_of, roots_of, limit_of, Place, place}
 use Rattle.grammar.specs.Refusals.{RefusedAs}
-use Rattle.grammar.specs.Sound.{Sound}
 use Rattle.grammar.specs.Words as words
 use Rattle.grammar.specs.Words.{word_spot, rest_of, WordTold}
 use Rattle.grammar.specs.declared.piece.Piece.{Piece}
@@ -13,7 +12,6 @@ use Rattle.grammar.specs.Parts.{Lenders, Reader}
 use Rattle.grammar.specs.declared.refusal.Refusal.{Refusal}
 use Rattle.grammar.specs.declared.words.Word.{Word}
 use Rattle.grammar.specs.declared.words.Words.{Words}
-use Rattle.lexer.specs.declared.vocabulary.Spelling.{Spelling}
 use Rattle.notation.specs.Numbering.{Level, one_more}
 use Rattle.notation.specs.Reading.{Limits, Levels, Outcome, bad_spelling, run}
 use Rattle.notation.specs.Standing.{ready, inside}
@@ -21,7 +19,6 @@ use Rattle.notation.specs.Tables.{Tables}
 use Rattle.notation.specs.Tokens.{Bracket, Terminal, Token, terminal, Ending}
 use Rattle.tables.specs.Meant.{tables_meant}
 use Rattle.tables.specs.Filling.{room}
-use Rattle.tables.specs.declared.name.Name.{Name}
 
 abbrev pub text_of : Reader → List ℕ
 text_of r = r.words.text.now
@@ -52,11 +49,6 @@ fixed r = record {
   node_place = place r.forest.nodes;
   lenders = r.lenders;
 }
-
-
-pub record Kept (before after : Reader) : Type 0 where
-  pub same : fixed after ≡ fixed before
-  pub sound : Sound after.names after.kinds after.forest.nodes after.forest.roots
 
 -- what the automaton of the notation makes of the tokens to come, within these brackets and levels
 abbrev pub standing : Reader → (bs : List Bracket) → ℕ → Level → Levels bs → Outcome
@@ -96,7 +88,7 @@ Ends (piece_is.Closing b) = Unit {0}
 
 -- one part of a sequence is read, and its node is one more of its items
 pub record NodeRead (depth : ℕ) (before after : Reader) (n : ℕ) : Type 0 where
-  pub kept : Kept before after
+  pub same : fixed after ≡ fixed before
   pub same_roots : roots_of after.forest ≡ roots_of before.forest
   pub own : length (roots_of after.forest) < length (nodes_of after.forest)
   pub small : n < 1024

@@ -1,6 +1,6 @@
 -- How rules are read.
 use Rattle.std.specs.Prelude.{◌≡◌, ℕ, ◌<◌, ◌⊎◌, List, [], length, Some, None}
-use Rattle.grammar.specs.Reader.{tokens_of, tables_of, fixed, Kept, standing, standing_ready}
+use Rattle.grammar.specs.Reader.{tokens_of, tables_of, fixed, standing, standing_ready}
 use Rattle.grammar.specs.Refusals.{RefusedAs}
 use Rattle.grammar.specs.Parts.{Reader}
 use Rattle.grammar.specs.declared.refusal.Refusal.{Refusal}
@@ -20,7 +20,7 @@ abbrev pub at_arrow : Reader → ℕ → Outcome
 at_arrow r rule = run (fixed r).limits heading (record { tables = tables_of r; rule = rule }) (tokens_of r) (fixed r).ending
 
 pub record HeadRead (before after : Reader) (name : ℕ) : Type 0 where
-  pub kept : Kept before after
+  pub same : fixed after ≡ fixed before
   pub shorter : length (tokens_of after) < length (tokens_of before)
   pub goes : at_rule before ≡ at_arrow after name
 
@@ -29,7 +29,7 @@ pub record HeadRefused (before after : Reader) (e : Refusal) : Type 0 where
   pub told : RefusedAs e (at_rule before)
 
 pub record ArrowRead (before after : Reader) : Type 0 where
-  pub kept : Kept before after
+  pub same : fixed after ≡ fixed before
   pub shorter : length (tokens_of after) < length (tokens_of before)
   pub goes : (rule : ℕ) → at_arrow before rule ≡ standing after [] rule no_level tt
 
@@ -38,7 +38,7 @@ pub record ArrowRefused (before after : Reader) (e : Refusal) : Type 0 where
   pub told : (rule : ℕ) → RefusedAs e (at_arrow before rule)
 
 pub record RuleRead (before after : Reader) : Type 0 where
-  pub kept : Kept before after
+  pub same : fixed after ≡ fixed before
   pub shorter : length (tokens_of after) < length (tokens_of before)
   pub goes : at_rule before ≡ at_rule after
 
@@ -52,5 +52,5 @@ NamesLack place ns e = ((length ns ≡ 0) × (e ≡ Misplaced place)) ⊎ ((firs
 
 -- all is read, and stands in the tables
 pub record AllRead (before after : Reader) : Type 0 where
-  pub kept : Kept before after
+  pub same : fixed after ≡ fixed before
   pub outcome : at_rule before ≡ read (tables_of after)

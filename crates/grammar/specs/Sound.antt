@@ -2,7 +2,6 @@
 use Rattle.std.specs.Prelude.{ℕ, ◌<◌, List, [], ◌∷◌}
 use Rattle.std.specs.Coded.{×_prop, Unit-prop, le_prop}
 use Rattle.grammar.specs.Forest.{Clean, Healthy}
-use Rattle.grammar.specs.Trees.{Forest}
 use Rattle.lexer.specs.declared.vocabulary.Spelling.{Spelling}
 use Rattle.notation.specs.Statements.{Each}
 use Rattle.tables.specs.Nodes.{Nodes}

@@ -1,6 +1,7 @@
 use Rattle.std.proofs.Common.{rules}
 use Rattle.grammar.specs.Parts.{reader}
 use Rattle.grammar.proofs.Filling.{unfilled, filled}
+use Rattle.grammar.proofs.Soundness.{sound}
 use Rattle.grammar.proofs.Finishing.{passed_on}
 use Rattle.grammar.proofs.judging.read_all.Goals as goal
 
@@ -11,5 +12,5 @@ returns-in_err-rules-clause-told c =
 
 pub returns-clause-told : goal.returns-clause-told
 returns-clause-told c =
-    let f = filled _ c.requires.0 c.requires.1 (reader c.rules.new.self) c.len.result c.len-2.result c.len-3.result c.len.ensures c.len-2.ensures c.len-3.ensures c.in_ok-rules.ensures.told in
+    let f = filled _ c.requires.0 c.requires.1 (reader c.rules.new.self) c.len.result c.len-2.result c.len-3.result c.len.ensures c.len-2.ensures c.len-3.ensures (sound c.rules.new.self) c.in_ok-rules.ensures.told in
     search rules

@@ -6,12 +6,12 @@ use Rattle.grammar.specs.declared.piece.Piece.TheVariants.{Bar}
 use Rattle.grammar.proofs.Cycle.{no_branch_yet, low_high, high_within, bar_first, branch_more, branch_unclosed, all_closed, depth_fits}
 use Rattle.grammar.proofs.Finishing.{passed_on}
 use Rattle.grammar.proofs.Rooting.{pushed_root}
-use Rattle.grammar.proofs.Soundness.{sound}
+use Rattle.grammar.proofs.Soundness.{healthy}
 use Rattle.grammar.proofs.Sequences.{no_item_yet, item_more, arrow_unread, group_too_deep, group_read, group_unread}
 use Rattle.grammar.proofs.parser.Parser.+branches_item_sequence.Goals as goal
 
 pub branches-loop-mark-init : goal.branches-loop-mark-init
-branches-loop-mark-init t c = no_branch_yet c.args.depth (reader c.args.self.now) (sound c.args.self.now)
+branches-loop-mark-init t c = no_branch_yet c.args.depth (reader c.args.self.now)
 
 pub branches-end-requires : goal.branches-end-requires
 branches-end-requires t c =
@@ -56,17 +56,17 @@ item-returns-then-depth-eq-DEPTH t c = group_too_deep c.args.depth (reader c.arg
 pub item-returns-in_err-node-in-Opening : goal.item-returns-in_err-node-in-Opening
 item-returns-in_err-node-in-Opening t c =
     passed_on c.from_residual-in_err-node-in-Opening.result c.in_err-node-in-Opening.field-0.0 _ _ c.from_residual-in_err-node-in-Opening.ensures.1
-    (group_unread c.args.depth (reader c.args.self.now) c.in_ok-word.word c.in_ok-word.ensures c.in-Opening.bracket c.in-Opening.is (sound c.args.self.now) (omega arith) c.advance.new.self c.advance.ensures (reader c.branches.new.self) c.in_err-node-in-Opening.field-0.0 c.in_err-node-in-Opening.ensures)
+    (group_unread c.args.depth (reader c.args.self.now) c.in_ok-word.word c.in_ok-word.ensures c.in-Opening.bracket c.in-Opening.is (omega arith) c.advance.new.self c.advance.ensures (reader c.branches.new.self) c.in_err-node-in-Opening.field-0.0 c.in_err-node-in-Opening.ensures)
 
 pub item-returns-in-Arrow : goal.item-returns-in-Arrow
 item-returns-in-Arrow t c = arrow_unread c.args.depth (reader c.args.self.now) c.in_ok-word.word c.in_ok-word.ensures c.in-Arrow.is
 
 pub item-returns-in_ok-node-in-Opening : goal.item-returns-in_ok-node-in-Opening
 item-returns-in_ok-node-in-Opening t c =
-    group_read c.args.depth (reader c.args.self.now) c.in_ok-word.word c.in_ok-word.ensures c.in-Opening.bracket c.in-Opening.is (sound c.args.self.now) (omega arith) c.advance.new.self c.advance.ensures (reader c.branches.new.self) c.in_ok-node-in-Opening.node c.in_ok-node-in-Opening.ensures
+    group_read c.args.depth (reader c.args.self.now) c.in_ok-word.word c.in_ok-word.ensures c.in-Opening.bracket c.in-Opening.is (omega arith) c.advance.new.self c.advance.ensures (reader c.branches.new.self) c.in_ok-node-in-Opening.node c.in_ok-node-in-Opening.ensures
 
 pub sequence-loop-node-init : goal.sequence-loop-node-init
-sequence-loop-node-init t c = no_item_yet c.args.depth (reader c.args.self.now) (sound c.args.self.now)
+sequence-loop-node-init t c = no_item_yet c.args.depth (reader c.args.self.now)
 
 pub sequence-loop-node-preserved : goal.sequence-loop-node-preserved
 sequence-loop-node-preserved t c =
@@ -74,4 +74,4 @@ sequence-loop-node-preserved t c =
     let n = reader c.item.new.self in
     let after : Forest = record { nodes = c.item.new.self.nodes.now; roots = c.push.new.self.items } in
     let h : NodeRead c.args.depth m n c.in-Node.node = subst (ItemTold c.args.depth m n) c.in-Node.is c.in_ok-node.ensures in
-    item_more c.args.depth (reader c.args.self.now) m n after c.in-Node.node c.loop-node.invariant h (pushed_root c.in-Node.node n.forest after h.kept.sound.healthy h.own h.small refl c.push.ensures.items)
+    item_more c.args.depth (reader c.args.self.now) m n after c.in-Node.node c.loop-node.invariant h (pushed_root c.in-Node.node n.forest after (healthy c.item.new.self) h.own h.small refl c.push.ensures.items)

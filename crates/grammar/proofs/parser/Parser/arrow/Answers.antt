@@ -1,7 +1,6 @@
 use Rattle.std.proofs.Common.{◌≡◌, rules}
 use Rattle.grammar.specs.Parts.{reader}
 use Rattle.grammar.specs.declared.piece.Piece.TheVariants.{Arrow}
-use Rattle.grammar.proofs.Soundness.{sound}
 use Rattle.grammar.proofs.Ruling.{arrow_misplaced, arrow_read}
 use Rattle.grammar.proofs.parser.Parser.arrow.Goals as goal
 
@@ -13,4 +12,4 @@ returns-then-ne c =
 pub returns : goal.returns
 returns c =
     let same : c.in_ok-word.word.piece ≡ Arrow = search rules in
-    arrow_read (reader c.args.self.now) c.in_ok-word.word c.in_ok-word.ensures (sound c.args.self.now) same c.advance.new.self c.advance.ensures
+    arrow_read (reader c.args.self.now) c.in_ok-word.word c.in_ok-word.ensures same c.advance.new.self c.advance.ensures

@@ -4,7 +4,6 @@ use Rattle.grammar.specs.Parts.{reader, forest}
 use Rattle.grammar.specs.declared.refusal.Refusal.TheVariants.{NodesFull}
 use Rattle.grammar.proofs.Closing.{branch_full, branch_read}
 use Rattle.grammar.proofs.Finishing.{passed_on}
-use Rattle.grammar.proofs.Soundness.{sound}
 use Rattle.grammar.proofs.Moves.{advanced, words_gone}
 use Rattle.grammar.proofs.parser.Parser.next_branch.Goals as goal
 
@@ -17,10 +16,10 @@ returns-in_err-end_branch c =
     let e = c.in_err-end_branch.field-0.0 in
     let h = c.in_err-end_branch.ensures in
     passed_on c.from_residual.result (NodesFull e.limit) _ _ c.from_residual.ensures.1
-    (subst (λ q. BranchRefused c.args.begin r q (NodesFull e.limit)) (sym h.beside) (branch_full r (sound c.args.self.now) c.requires.0 c.args.begin (forest c.end_branch.new.self) e h.told))
+    (subst (λ q. BranchRefused c.args.begin r q (NodesFull e.limit)) (sym h.beside) (branch_full r c.requires.0 c.args.begin (forest c.end_branch.new.self) e h.told))
 
 pub returns : goal.returns
 returns c =
     let r = reader c.args.self.now in
     let h = c.in_ok-end_branch.ensures in
-    subst (BranchRead c.args.begin r) (sym (ap (words_gone c.advance.new.self) h.beside)) (branch_read r (sound c.args.self.now) c.requires.0 c.args.begin (forest c.end_branch.new.self) h.told c.advance.new.self (advanced _ _ c.advance.new.self (ap (λ q. q.words) h.beside) c.advance.ensures))
+    subst (BranchRead c.args.begin r) (sym (ap (words_gone c.advance.new.self) h.beside)) (branch_read r c.requires.0 c.args.begin (forest c.end_branch.new.self) h.told c.advance.new.self (advanced _ _ c.advance.new.self (ap (λ q. q.words) h.beside) c.advance.ensures))

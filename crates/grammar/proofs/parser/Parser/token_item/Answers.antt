@@ -5,13 +5,13 @@ use Rattle.grammar.proofs.Counted.{number_small}
 use Rattle.grammar.proofs.Finishing.{passed_on}
 use Rattle.grammar.proofs.Leaves.{token_over, token_nodes_over, token_read}
 use Rattle.grammar.specs.Sound.{zero_spelling}
-use Rattle.grammar.proofs.Soundness.{healthy, sound}
+use Rattle.grammar.proofs.Soundness.{healthy}
 use Rattle.grammar.proofs.Rooting.{still_clean, made_grows, made_clean, made_one, made_none}
 use Rattle.tree.specs.declared.class.Class.TheVariants.{Token}
 use Rattle.grammar.proofs.parser.Parser.token_item.Goals as goal
 
 pub returns-in_default : goal.returns-in_default
-returns-in_default c = λ depth d. token_over (reader c.args.self.now) (sound c.args.self.now) c.args.word c.requires c.number.new.self _ c.in_default.ensures.told depth d
+returns-in_default c = λ depth d. token_over (reader c.args.self.now) c.args.word c.requires c.number.new.self _ c.in_default.ensures.told depth d
 
 pub overflow_cast-kind : goal.overflow_cast-kind
 overflow_cast-kind c = let small = number_small _ _ _ _ c.args.self.now.kinds.now c.number.new.self c.in-Ok.kind c.in-Ok.ensures.told in omega arith
@@ -22,11 +22,11 @@ overflow_add-kind c = let small = number_small _ _ _ _ c.args.self.now.kinds.now
 pub returns-in_err-node : goal.returns-in_err-node
 returns-in_err-node c = λ depth d.
     passed_on c.from_residual.result (NodesFull c.in_err-node.field-0.0.limit) _ _ c.from_residual.ensures.1
-    (token_nodes_over (reader c.args.self.now) (sound c.args.self.now) c.args.word c.requires c.number.new.self c.in-Ok.kind c.in-Ok.ensures.told c.number.ensures.loan _ c.in_err-node.field-0.0 (made_none (forest c.args.self.now) _ c.in_err-node.field-0.0 c.in_err-node.ensures.told) depth d)
+    (token_nodes_over (reader c.args.self.now) c.args.word c.requires c.number.new.self c.in-Ok.kind c.in-Ok.ensures.told c.number.ensures.loan _ c.in_err-node.field-0.0 (made_none (forest c.args.self.now) _ c.in_err-node.field-0.0 c.in_err-node.ensures.told) depth d)
 
 pub returns : goal.returns
 returns c = λ depth d.
-    token_read (reader c.args.self.now) (sound c.args.self.now) c.args.word c.requires c.number.new.self c.in-Ok.kind c.in-Ok.ensures.told c.number.ensures.loan _ c.in_ok-node.node (made_one _ _ _ (forest c.args.self.now) _ c.in_ok-node.node (healthy c.args.self.now) refl c.in_ok-node.ensures.told c.in_ok-node.ensures.loan) c.advance.new.self c.advance.ensures depth d
+    token_read (reader c.args.self.now) c.args.word c.requires c.number.new.self c.in-Ok.kind c.in-Ok.ensures.told c.number.ensures.loan _ c.in_ok-node.node (made_one _ _ _ (forest c.args.self.now) _ c.in_ok-node.node (healthy c.args.self.now) refl c.in_ok-node.ensures.told c.in_ok-node.ensures.loan) c.advance.new.self c.advance.ensures c.args.self.now.few depth d
 
 pub invariant_of-self-in-Break-1 : goal.invariant_of-self-in-Break-1
 invariant_of-self-in-Break-1 c =
