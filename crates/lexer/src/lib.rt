@@ -7,4 +7,4 @@ mod vocabulary;
 
 pub use bytes::{ByteClass, Run, is_sign, run_length};
 pub use lexeme::{BLANK, COMMENT, Lexeme, lex};
-pub use vocabulary::{Sought, Spelling, Vocabulary, part};
+pub use vocabulary::{KINDS, Sought, Spelling, Vocabulary, part};

@@ -7,7 +7,7 @@ ghost use Rattle.lexer.specs.Parts.{part_of};
 ghost use Rattle.lexer.specs.Vocabulary.{quoted, written, reads, spelled, lexicon, kind_of, Names};
 
 // How many kinds a grammar can have.
-const KINDS: usize = 120;
+pub const KINDS: usize = 120;
 
 // Where a grammar's text first spells a kind: a class word, or a spelling with its quotes.
 #[derive(Clone, Copy, Debug, Default, PartialEq, Eq)]

@@ -2,13 +2,11 @@
 ghost use Rattle.std.specs.Prelude.{◌≤◌, length};
 
 use crate::name::Name;
-use lexer::Spelling;
+use lexer::{KINDS, Spelling};
 use tree::Node;
 
-// How many names, kinds and nodes a grammar can have.
+// How many names and nodes a grammar can have.
 pub const NAMES: usize = 64;
-
-pub const KINDS: usize = 120;
 
 pub const NODES: usize = 1024;
 

@@ -11,8 +11,9 @@ mod numbering;
 mod spotted;
 mod wipe;
 
-pub use filling::{Filling, KINDS, Kinds, NAMES, NODES, Names, Nodes};
+pub use filling::{Filling, Kinds, NAMES, NODES, Names, Nodes};
 pub use full::Full;
+pub use lexer::KINDS;
 pub use name::Name;
 pub use spotted::{Spotted, clip};
 pub use wipe::wipe_table;
