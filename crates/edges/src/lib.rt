@@ -2,6 +2,14 @@
 #![tactic(auto)]
 
 #[cfg(test)]
-mod tests;
+mod accepted;
+#[cfg(test)]
+mod large;
+#[cfg(test)]
+mod lent;
+#[cfg(test)]
+mod narrow;
+#[cfg(test)]
+mod refused;
 #[cfg(test)]
 mod told;
