@@ -1,14 +1,16 @@
 // Grammars that are accepted, each with all that their tables hold then.
-use crate::lent::{AMPLE, Tables};
+use crate::lent::{AMPLE, Tables, counts, shown};
 use draft::Draft;
-use grammar::{Counts, judge};
+use grammar::{Counts, Refusal, judge};
 use lexer::Spelling;
 use std::process::Abort;
-use std::test::*;
 use tables::Name;
-use tree::{Class, NONE, Node};
+use tree::{Class, Node};
 
-// The records of the tables below; a static calls no function.
+// No child, or no sibling.
+const NONE: u16 = 1024;
+
+// Records in one line; macros, since a static calls no function.
 macro_rules! name {
     ($place:expr, $length:expr, $root:expr) => {
         Name {
@@ -221,31 +223,28 @@ static JOB: Accepted = Accepted {
 
 impl Accepted {
     fn counts(&self) -> Counts {
-        Counts {
-            names: self.names.len(),
-            kinds: self.kinds.len(),
-            nodes: self.nodes.len(),
-        }
+        counts!(self.names.len(), self.kinds.len(), self.nodes.len())
     }
 
     fn is_accepted(&self, rt: &impl Abort) {
+        let text = shown(self.text);
+        let counts = self.counts();
         let mut tables = Tables::used();
-        let answer = tables.judge(rt, self.text, AMPLE);
-        assert_eq!(rt; answer, Ok(self.counts()), "{}", self.text.escape_ascii());
-        assert!(rt;
-            tables.names.starts_with(self.names),
-            "{}",
-            self.text.escape_ascii()
+        assert_eq!(rt; tables.judge(rt, self.text, AMPLE), Ok(counts), "{text}");
+        assert_eq!(rt;
+            tables.names.get(..counts.names),
+            Some(self.names),
+            "{text}"
         );
-        assert!(rt;
-            tables.kinds.starts_with(self.kinds),
-            "{}",
-            self.text.escape_ascii()
+        assert_eq!(rt;
+            tables.kinds.get(..counts.kinds),
+            Some(self.kinds),
+            "{text}"
         );
-        assert!(rt;
-            tables.nodes.starts_with(self.nodes),
-            "{}",
-            self.text.escape_ascii()
+        assert_eq!(rt;
+            tables.nodes.get(..counts.nodes),
+            Some(self.nodes),
+            "{text}"
         );
     }
 }
@@ -259,14 +258,21 @@ fn grammars(rt: HostRuntime) {
 }
 
 #[test]
-fn the_draft_of_the_job(rt: HostRuntime) -> Result<(), Fail> {
-    let Tables {
-        mut names,
-        mut kinds,
-        mut nodes,
-    } = Tables::used();
-    let counts = judge(JOB.text, &mut names, &mut kinds, &mut nodes)?;
-    let draft = Draft::make(JOB.text, &names, &kinds, &nodes, counts);
+fn the_draft_of_the_job(rt: HostRuntime) -> Result<(), Refusal> {
+    let mut tables = Tables::used();
+    let counts = judge(
+        JOB.text,
+        &mut tables.names,
+        &mut tables.kinds,
+        &mut tables.nodes,
+    )?;
+    let draft = Draft::make(
+        JOB.text,
+        &tables.names,
+        &tables.kinds,
+        &tables.nodes,
+        counts,
+    );
     assert_eq!(rt; draft.shape(), JOB.counts());
     assert_eq!(rt; draft.nodes().len(), 22);
     assert_eq!(rt; draft.nodes(), JOB.nodes);

@@ -1,23 +1,21 @@
 // Texts of the largest size, and texts that are too large.
-use crate::lent::{AMPLE, code_of, counts, judged, told};
+use crate::lent::{AMPLE, counts, has_fault, is_told};
 use grammar::Counts;
 use std::alloc::{AllocError, Global};
-use std::process::Abort;
-use std::test::*;
 
 // What a text begins with, the two parts that it repeats, and what it ends with.
 type Parts = [&'static str; 4];
 
 // Each part so many times, the one before the other.
-fn grown(alloc: Global, parts: &Parts, times: usize) -> Result<String, AllocError> {
+fn grown(alloc: Global, parts: Parts, times: usize) -> Result<String, AllocError> {
     let [head, left, right, tail] = parts;
     let left = left.repeat(alloc, times)?;
     let right = right.repeat(alloc, times)?;
-    [*head, left.as_str(), right.as_str(), *tail].concat(alloc)
+    [head, left.as_str(), right.as_str(), tail].concat(alloc)
 }
 
 // The two parts around each number from 000 on.
-fn numbered(alloc: Global, parts: &Parts, count: usize) -> Result<String, AllocError> {
+fn numbered(alloc: Global, parts: Parts, count: usize) -> Result<String, AllocError> {
     let [head, left, right, tail] = parts;
     let mut text = String::from_str(alloc, head)?;
     for i in 0..count {
@@ -45,14 +43,10 @@ static LARGE: [Large; 11] = [
 ];
 
 #[test]
-fn large_texts(rt: HostRuntime) -> Result<(), Fail> {
+fn large_texts(rt: HostRuntime) -> Result<(), AllocError> {
     for &Large(parts, times, counts) in &LARGE {
-        let text = grown(rt.alloc(), &parts, times)?;
-        assert_eq!(rt;
-            judged(&rt, text.as_bytes(), AMPLE),
-            Ok(counts),
-            "{times} of {parts:?}"
-        );
+        let text = grown(rt.alloc(), parts, times)?;
+        is_told(&rt, text.as_bytes(), AMPLE, Ok(counts));
     }
     Ok(())
 }
@@ -84,19 +78,18 @@ static TOO_LARGE: [TooLarge; 20] = [
 ];
 
 #[test]
-fn too_large_texts(rt: HostRuntime) -> Result<(), Fail> {
+fn too_large_texts(rt: HostRuntime) -> Result<(), AllocError> {
     for &TooLarge(parts, times, number, value) in &TOO_LARGE {
-        let text = grown(rt.alloc(), &parts, times)?;
-        let answer = judged(&rt, text.as_bytes(), AMPLE);
-        assert_eq!(rt; told(answer), Err((number, value)), "{times} of {parts:?}");
+        let text = grown(rt.alloc(), parts, times)?;
+        is_told(&rt, text.as_bytes(), AMPLE, Err((number, value)));
     }
     Ok(())
 }
 
 #[test]
-fn a_long_name(rt: HostRuntime) -> Result<(), Fail> {
-    let text = grown(rt.alloc(), &["", "a", "", "->;"], 256)?;
-    assert_eq!(rt; code_of(judged(&rt, text.as_bytes(), AMPLE)), Some(3));
+fn a_long_name(rt: HostRuntime) -> Result<(), AllocError> {
+    let text = grown(rt.alloc(), ["", "a", "", "->;"], 256)?;
+    has_fault(&rt, text.as_bytes(), 3);
     Ok(())
 }
 
@@ -109,14 +102,10 @@ static MANY: [Large; 4] = [
 ];
 
 #[test]
-fn many_entries(rt: HostRuntime) -> Result<(), Fail> {
+fn many_entries(rt: HostRuntime) -> Result<(), AllocError> {
     for &Large(parts, count, counts) in &MANY {
-        let text = numbered(rt.alloc(), &parts, count)?;
-        assert_eq!(rt;
-            judged(&rt, text.as_bytes(), AMPLE),
-            Ok(counts),
-            "{count} of {parts:?}"
-        );
+        let text = numbered(rt.alloc(), parts, count)?;
+        is_told(&rt, text.as_bytes(), AMPLE, Ok(counts));
     }
     Ok(())
 }
@@ -130,11 +119,10 @@ static TOO_MANY: [TooLarge; 5] = [
 ];
 
 #[test]
-fn too_many_entries(rt: HostRuntime) -> Result<(), Fail> {
+fn too_many_entries(rt: HostRuntime) -> Result<(), AllocError> {
     for &TooLarge(parts, count, number, value) in &TOO_MANY {
-        let text = numbered(rt.alloc(), &parts, count)?;
-        let answer = judged(&rt, text.as_bytes(), AMPLE);
-        assert_eq!(rt; told(answer), Err((number, value)), "{count} of {parts:?}");
+        let text = numbered(rt.alloc(), parts, count)?;
+        is_told(&rt, text.as_bytes(), AMPLE, Err((number, value)));
     }
     Ok(())
 }

@@ -1,8 +1,6 @@
 // Tables that are too small for a text, and tables that just hold it.
-use crate::lent::{counts, judged, told};
+use crate::lent::{counts, is_told};
 use grammar::Counts;
-use std::process::Abort;
-use std::test::*;
 
 // A text that is refused where there is this room: the number, and the first value.
 struct Narrow(&'static [u8], Counts, u8, usize);
@@ -47,13 +45,7 @@ static NARROW: [Narrow; 34] = [
 #[test]
 fn narrow_tables(rt: HostRuntime) {
     for &Narrow(text, room, number, value) in &NARROW {
-        let answer = judged(&rt, text, room);
-        assert_eq!(rt;
-            told(answer),
-            Err((number, value)),
-            "{}",
-            text.escape_ascii()
-        );
+        is_told(&rt, text, room, Err((number, value)));
     }
 }
 
@@ -71,11 +63,6 @@ static FITTING: [Fitting; 5] = [
 #[test]
 fn tables_that_fit(rt: HostRuntime) {
     for &Fitting(text, room) in &FITTING {
-        assert_eq!(rt;
-            judged(&rt, text, room),
-            Ok(room),
-            "{}",
-            text.escape_ascii()
-        );
+        is_told(&rt, text, room, Ok(room));
     }
 }

@@ -1,7 +1,5 @@
 // Texts that are refused in ample tables.
-use crate::lent::{AMPLE, code_of, judged, told};
-use std::process::Abort;
-use std::test::*;
+use crate::lent::{AMPLE, has_fault, is_told};
 
 // A text that is refused: the number, and the first value.
 struct Refused(&'static [u8], u8, usize);
@@ -82,13 +80,7 @@ static REFUSED: [Refused; 69] = [
 #[test]
 fn refusals(rt: HostRuntime) {
     for &Refused(text, number, value) in &REFUSED {
-        let answer = judged(&rt, text, AMPLE);
-        assert_eq!(rt;
-            told(answer),
-            Err((number, value)),
-            "{}",
-            text.escape_ascii()
-        );
+        is_told(&rt, text, AMPLE, Err((number, value)));
     }
 }
 
@@ -115,8 +107,7 @@ static FAULTY: [Faulty; 14] = [
 #[test]
 fn faults(rt: HostRuntime) {
     for &Faulty(text, place, code) in &FAULTY {
-        let answer = judged(&rt, text, AMPLE);
-        assert_eq!(rt; told(answer), Err((2, place)), "{}", text.escape_ascii());
-        assert_eq!(rt; code_of(answer), Some(code), "{}", text.escape_ascii());
+        is_told(&rt, text, AMPLE, Err((2, place)));
+        has_fault(&rt, text, code);
     }
 }

@@ -1,6 +1,7 @@
+// The lines that tell how grammars are judged.
+use crate::lent::shown;
 use lines::judged_line;
-use std::process::Abort;
-use std::test::*;
+use std::alloc::AllocError;
 
 // A grammar's text, and the line that says how it is judged.
 struct Told(&'static [u8], &'static [u8]);
@@ -18,10 +19,10 @@ static TOLD: [Told; 6] = [
 ];
 
 #[test]
-fn told_lines(rt: HostRuntime) -> Result<(), Fail> {
-    for Told(text, line) in &TOLD {
+fn told_lines(rt: HostRuntime) -> Result<(), AllocError> {
+    for &Told(text, line) in &TOLD {
         let out = judged_line(rt.alloc(), text)?;
-        assert!(rt; out.as_slice() == *line);
+        assert_eq!(rt; out.as_slice(), line, "{}", shown(text));
     }
     Ok(())
 }
