@@ -7,7 +7,7 @@ use lexer::Spelling;
 use tables::Name;
 use tree::Node;
 
-// A text, the tables that hold its reading, and how many entries they have. It borrows them all,
+// A text, the whole tables that hold its reading, and how many entries they have. It borrows them,
 // so that nobody writes to them meanwhile, and only tables that were judged make one.
 #[derive(Drop)]
 pub struct Draft<'g> {

@@ -11,7 +11,8 @@ use lexer::Spelling;
 use tables::{Name, clip};
 use tree::{Class, NONE};
 
-// What an item was read as: its node, or none, at a mark that ends the sequence.
+// What an item was read as: its node, or none, at a mark that ends the sequence. Named by what
+// was read; `ControlFlow` would only say what the caller does then.
 #[derive(Clone, Copy)]
 pub(crate) enum Item {
     Node(u16),
@@ -19,7 +20,8 @@ pub(crate) enum Item {
 }
 
 impl Parser<'_, '_> {
-    // A name in a sequence.
+    // A name in a sequence. One text for this and the next would take the table, the class and the
+    // refusal as parameters.
     pub(crate) fn name_item(&mut self, word: Word) -> Result<Item, Refusal>
         requires { NamedFirst self.old.words.now word }
         ensures { (depth : ℕ) → depth ≤ 32 → MatchResult result (ItemTold depth (reader self.old) (reader self.new)) (ItemRefused depth (reader self.old) (reader self.new)) }

@@ -57,6 +57,7 @@ pub(crate) fn class_of(b: u8) -> ByteClass
     }
 }
 
+// By an enum and not by closures, so that one definition names the bytes of each run.
 fn continues(run: Run, b: u8) -> bool
     ensures { result ≡ goes_on run b }
 {

@@ -37,6 +37,7 @@ fn judge(length: usize, kind: Option<u8>) -> Result<Lexeme, FaultCode>
 fn kind_of_word(word: &[u8], vocabulary: &Vocabulary<'_>) -> Option<u8>
     ensures { result ≡ word_kind (lexicon vocabulary.now) word.now }
 {
+    // A match, since what a closure over references answers is not known to its caller.
     match vocabulary.kind_of(Sought::Quoted(word)) {
         Some(kind) => Some(kind),
         None => vocabulary.kind_of(Sought::Class(b"WORD")),

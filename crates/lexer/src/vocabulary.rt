@@ -63,6 +63,7 @@ impl Vocabulary<'_> {
     fn is_spelled(&self, spelling: Spelling, sought: Sought<'_>) -> bool
         ensures { result ≡ reads (spelled self.now.text.now spelling) (written sought.entry) }
     {
+        // A match, as in `kind_of_word`.
         match part(self.text, spelling.place, spelling.length) {
             Some(bytes) => is_written(bytes, sought),
             None => false,

@@ -1,4 +1,5 @@
-// What a table is filled with.
+// What a table is filled with. Each call ensures that the loan stays, so that the lender knows its
+// table afterwards.
 ghost use Rattle.std.specs.Prelude.{◌≡◌, length, MatchResult};
 ghost use Rattle.tables.specs.Filling.{entries, room, IsNew, Added, IsFull};
 

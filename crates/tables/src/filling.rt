@@ -10,7 +10,8 @@ pub const NAMES: usize = 64;
 
 pub const NODES: usize = 1024;
 
-// A lent table, and how many of its places are filled: the first ones, `LIMIT` at most.
+// A lent table, and how many of its places are filled: the first ones, `LIMIT` at most. The caller
+// supplies it, since its length decides refusals and its contents are promised.
 #[derive(Drop)]
 pub struct Filling<'a, E, const LIMIT: usize> {
     pub(crate) table: &'a mut [E],

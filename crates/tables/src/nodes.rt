@@ -41,6 +41,7 @@ impl Nodes<'_> {
         ensures kept { RestKept self.old self.new }
         ensures loan { self.new.table.ghost_name ≡ self.old.table.ghost_name }
     {
+        // Pairs by index: windows would need an arm that cannot happen.
         for i in (1..row.len()).rev() {
             self.join_nodes(row[i - 1], row[i]);
         }

@@ -46,7 +46,8 @@ impl Spotted for Spelling {
     }
 }
 
-// A part of the text, as far as the text goes.
+// A part of the text, as far as the text goes. Place and length are fields of several records,
+// each with others beside them.
 pub fn clip(text: &[u8], place: usize, length: usize) -> &[u8]
     ensures { result.now ≡ cut text.now place length }
 {

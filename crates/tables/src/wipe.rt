@@ -5,6 +5,7 @@ ghost use Rattle.std.specs.Prelude.{◌≡◌, length, replicate};
 pub fn wipe_table<T: Copy>(table: &mut [T], zero: T)
     ensures { table.new ≡ replicate (length table.old) zero }
 {
+    // `fill` would ask of every `T` that its clone cannot fail.
     for place in table.iter_mut() {
         *place = zero;
     }

@@ -48,7 +48,8 @@ pub enum Next<T = Token> {
     End(usize),
 }
 
-// What a source comes to after its last token.
+// What a source comes to after its last token. A value to compare, with which no call fails, so
+// that it is no `Result`.
 #[derive(Clone, Copy, Debug, PartialEq, Eq)]
 pub enum Ending {
     End(usize),

@@ -1,7 +1,7 @@
 // The nodes of a tree.
 use crate::class::Class;
 
-// The number that stands for no child and for no sibling.
+// The number that stands for no child and for no sibling: the tables of a grammar are of numbers.
 pub const NONE: u16 = 1024;
 
 // A node: its class, its value (the kind of a token, the number of a name, otherwise 0), its first
