@@ -6,6 +6,7 @@ mod Filling
 mod Finishing
 mod Judgement
 mod Leaves
+mod Mapped
 mod Moves
 mod Rooting
 mod Ruling

@@ -31,9 +31,10 @@ impl Parser<'_, '_> {
             length: word.length,
             root: NONE,
         };
-        let Ok(name) = self.names.number(self.words.text, entry) else {
-            return Err(Refusal::NamesFull(word.place));
-        };
+        let name = self
+            .names
+            .number(self.words.text, entry)
+            .map_err(|_| Refusal::NamesFull(word.place))?;
         let node = self.nodes.make(Class::Name, name as u16, NONE)?;
         self.words.advance();
         Ok(Item::Node(node))
@@ -48,9 +49,10 @@ impl Parser<'_, '_> {
             place: word.place,
             length: word.length,
         };
-        let Ok(kind) = self.kinds.number(self.words.text, entry) else {
-            return Err(Refusal::KindsFull(word.place));
-        };
+        let kind = self
+            .kinds
+            .number(self.words.text, entry)
+            .map_err(|_| Refusal::KindsFull(word.place))?;
         let node = self.nodes.make(Class::Token, kind as u16 + 1, NONE)?;
         self.words.advance();
         Ok(Item::Node(node))

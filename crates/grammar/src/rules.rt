@@ -27,9 +27,10 @@ impl Parser<'_, '_> {
             length: word.length,
             root: NONE,
         };
-        let Ok(name) = self.names.number(self.words.text, entry) else {
-            return Err(Refusal::NamesFull(word.place));
-        };
+        let name = self
+            .names
+            .number(self.words.text, entry)
+            .map_err(|_| Refusal::NamesFull(word.place))?;
         if self.names.has_rule(name) {
             return Err(Refusal::SecondRule(word.place));
         }
