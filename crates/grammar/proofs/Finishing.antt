@@ -37,30 +37,6 @@ made_is M ns n nodes at = subst (λ k. record { nodes = ns; at = k } ≡ M) (sym
 abbrev over_one : Class → ℕ → Forest → Made
 over_one k inside f = record { nodes = add k 0 inside (nodes_of f); at = length (nodes_of f) }
 
-pub in_brackets : (k : Class) (b : Bracket) (c : Option Bracket) (inside : ℕ) (before after : Forest) (r : Result ℕ Full)
-    → Healthy before → c ≡ Some b → over_inside (Some b) inside before ≡ record { nodes = add k 0 inside (nodes_of before); at = length (nodes_of before) }
-    → MatchResult r (MadeOne k 0 inside before after) (MadeNone before after) → MatchResult r (Bracketed c inside before after) (Unbracketed c inside before after)
-in_brackets k b c inside before after (Ok n) well closing is m =
-    let over : over_inside c inside before ≡ over_one k inside before = ap (λ x. over_inside x inside before) closing ∙ is in
-    let grown = ap length m.nodes ∙ length_add k 0 inside (nodes_of before) in
-    let room = m.room in
-    let few = well.few in
-    let same = ap length m.same_roots in
-    record {
-      number = m.number ∙ sym (ap (λ M. M.at) over);
-      nodes = m.nodes ∙ sym (ap (λ M. M.nodes) over);
-      same_roots = m.same_roots;
-      fits = omega arith;
-      own = omega arith;
-      small = omega (arith, m.number);
-      healthy = m.healthy;
-      place = m.place;
-    }
-in_brackets k b c inside before after (Err e) well closing is m =
-    let over : over_inside c inside before ≡ over_one k inside before = ap (λ x. over_inside x inside before) closing ∙ is in
-    let grown = ap (λ M. length M.nodes) over ∙ length_add k 0 inside (nodes_of before) in
-    record { full = omega (arith, m.full); told = m.told; place = m.place }
-
 module _ (closing : Option Bracket) (from begin : ℕ) (before : Forest) where
   -- the last branch, and all of them
   abbrev last : Made
@@ -82,9 +58,6 @@ module _ (closing : Option Bracket) (from begin : ℕ) (before : Forest) where
     long : length (take begin (roots_of before)) ≡ begin
     long = length-take-le begin (roots_of before) within
 
-    pub still_within : from ≤ length (roots_of mid)
-    still_within = omega (arith, long, ap length ended.more, length-append (take begin (roots_of before)) (last.at ∷ []))
-
     kept : take from (roots_of mid) ≡ take from (roots_of before)
     kept = ap (take from) ended.more ∙ take-append-le from (take begin (roots_of before)) (last.at ∷ []) (omega (arith, long)) ∙ take-take from begin (roots_of before) lower
 
@@ -93,16 +66,6 @@ module _ (closing : Option Bracket) (from begin : ℕ) (before : Forest) where
 
     over : over_row class_is.Alternative (drop from (roots_of mid)) (nodes_of mid) ≡ over_branches (drop from (take begin (roots_of before))) (drop begin (roots_of before)) (nodes_of before)
     over = ap (λ r. over_row class_is.Alternative r (nodes_of mid)) row ∙ ap (over_row class_is.Alternative (drop from (take begin (roots_of before)) ++ last.at ∷ [])) ended.nodes
-
-    pub branches_over : (after : Forest) (e : Full) → Unreduced class_is.Alternative from mid after e → Unfinished closing from begin before after e
-    branches_over after e h =
-        let same = ended.place in
-        let long = ap (λ p. p.long) same in
-        record {
-          full = omega (arith, h.full, ap (λ M. length M.nodes) over, group_grows closing branches);
-          told = h.told ∙ ap (min 1024) long;
-          place = h.place ∙ same;
-        }
 
     module _ (inner : Forest) (inside : ℕ) (reduced : Reduced class_is.Alternative from mid inner inside) where
       group : over_inside closing inside inner ≡ grouped closing from begin before
@@ -133,16 +96,4 @@ module _ (closing : Option Bracket) (from begin : ℕ) (before : Forest) where
             place = h.place ∙ same;
           }
 
-      pub ended_over : (after : Forest) (r : Result ℕ Full) → MatchResult r (Bracketed closing inside inner after) (Unbracketed closing inside inner after) → MatchResult r (Finished closing from begin before after) (Unfinished closing from begin before after)
-      ended_over after (Ok n) h = finished after n h
-      ended_over after (Err e) h = group_over after e h
-
 -- a sequence has ended, and its node waits
-pub branch_ended : (begin : ℕ) (before mid after : Forest) (n : ℕ) → Reduced class_is.Chain begin before mid n → Pushed n mid after → BranchEnded begin before after
-branch_ended begin before mid after n r p = record {
-  nodes = p.nodes ∙ r.nodes;
-  more = p.more ∙ ap (λ l. l ++ n ∷ []) r.fewer ∙ ap (λ k. take begin (roots_of before) ++ k ∷ []) r.number;
-  fits = omega (arith, ap length p.nodes, r.fits);
-  healthy = p.healthy;
-  place = p.place ∙ r.place;
-}

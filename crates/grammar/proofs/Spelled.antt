@@ -35,11 +35,6 @@ pub inside_is : (s : List ℕ) → take (length (after_first s) - 1) (after_firs
 inside_is [] = refl
 inside_is (q ∷ xs) = ap (λ l. take (length l - 1) l) (take_all (length (q ∷ xs) - 1) xs (omega arith)) ∙ front_is xs
 
-pub short_is : (s : List ℕ) → length (after_first s) < 1 → false ≡ is_spelling s
-short_is [] h = refl
-short_is (q ∷ []) h = refl
-short_is (q ∷ x ∷ xs) h = absurd (omega (arith, ap length (take_all (length (q ∷ x ∷ xs) - 1) (x ∷ xs) (omega arith))))
-
 pub spelled_word : (s : List ℕ) (a : Bool) → a ≡ is_word (take (length (after_first s) - 1) (after_first s)) → a ≡ true → a ≡ is_spelling s
 spelled_word s a word yes' = yes' ∙ sym (ap (λ b. b || is_signs (inner s)) (ap is_word (sym (inside_is s)) ∙ sym word ∙ yes'))
 

@@ -1,9 +1,6 @@
 use Rattle.std.proofs.Common.{rules}
-use Rattle.grammar.proofs.Spelled.{short_is, spelled_word, spelled_sign}
+use Rattle.grammar.proofs.Spelled.{spelled_word, spelled_sign}
 use Rattle.grammar.proofs.spelling.may_be_spelled.Goals as goal
-
-pub returns-in_default-rest : goal.returns-in_default-rest
-returns-in_default-rest c = short_is c.args.string.now (search rules)
 
 pub returns-then-is_word : goal.returns-then-is_word
 returns-then-is_word c = spelled_word c.args.string.now c.is_word.result c.is_word.ensures (search rules)

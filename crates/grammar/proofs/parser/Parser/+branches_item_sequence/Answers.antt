@@ -10,18 +10,6 @@ use Rattle.grammar.proofs.Soundness.{healthy}
 use Rattle.grammar.proofs.Sequences.{no_item_yet, item_more, arrow_unread, group_too_deep, group_read, group_unread}
 use Rattle.grammar.proofs.parser.Parser.+branches_item_sequence.Goals as goal
 
-pub branches-loop-mark-init : goal.branches-loop-mark-init
-branches-loop-mark-init t c = no_branch_yet c.args.depth (reader c.args.self.now)
-
-pub branches-end-requires : goal.branches-end-requires
-branches-end-requires t c =
-    let r = reader c.args.self.now in
-    let m = reader c.loop-mark.self in
-    let n = reader c.sequence.new.self in
-    let q = c.in_ok-mark.ensures in
-    let other : c.in_ok-mark.mark.piece ≡ Bar → ⊥ = search rules in
-    (q.first, q.ends, other, low_high c.args.depth r m n c.loop-mark.invariant c.in_ok-mark.mark q c.len-from.result c.len-begin.result c.len-from.ensures.value c.len-begin.ensures.value, high_within c.args.depth r m n c.loop-mark.invariant c.in_ok-mark.mark q c.len-from.result c.len-begin.result c.len-from.ensures.value c.len-begin.ensures.value)
-
 pub branches-returns-then-ne : goal.branches-returns-then-ne
 branches-returns-then-ne t c =
     all_closed c.args.depth (reader c.args.self.now) (reader c.loop-mark.self) (reader c.sequence.new.self) c.loop-mark.invariant c.in_ok-mark.mark c.in_ok-mark.ensures c.len-from.result c.len-begin.result c.len-from.ensures.value c.len-begin.ensures.value c.args.closing c.requires (reader c.end.new.self) c.end.result (λ k d. c.end.ensures k d)
@@ -38,12 +26,6 @@ branches-next_branch-requires t c =
 pub branches-loop-mark-preserved : goal.branches-loop-mark-preserved
 branches-loop-mark-preserved t c =
     branch_more c.args.depth (reader c.args.self.now) (reader c.loop-mark.self) (reader c.sequence.new.self) c.loop-mark.invariant c.in_ok-mark.mark c.in_ok-mark.ensures c.len-from.result c.len-begin.result c.len-from.ensures.value c.len-begin.ensures.value (depth_fits c.args.closing c.args.depth c.requires) (reader c.next_branch.new.self) c.in_ok-next_branch.ensures
-
-pub branches-loop-mark-smaller : goal.branches-loop-mark-smaller
-branches-loop-mark-smaller t c =
-    let q = c.in_ok-mark.ensures in
-    let h = c.in_ok-next_branch.ensures in
-    omega (arith, h.shorter, q.on.no_longer)
 
 pub branches-returns-in_err-next_branch : goal.branches-returns-in_err-next_branch
 branches-returns-in_err-next_branch t c =
@@ -68,10 +50,3 @@ item-returns-in_ok-node-in-Opening t c =
 pub sequence-loop-node-init : goal.sequence-loop-node-init
 sequence-loop-node-init t c = no_item_yet c.args.depth (reader c.args.self.now)
 
-pub sequence-loop-node-preserved : goal.sequence-loop-node-preserved
-sequence-loop-node-preserved t c =
-    let m = reader c.loop-node.self in
-    let n = reader c.item.new.self in
-    let after : Forest = record { nodes = c.item.new.self.nodes.now; roots = c.push.new.self.items } in
-    let h : NodeRead c.args.depth m n c.in-Node.node = subst (ItemTold c.args.depth m n) c.in-Node.is c.in_ok-node.ensures in
-    item_more c.args.depth (reader c.args.self.now) m n after c.in-Node.node c.loop-node.invariant h (pushed_root c.in-Node.node n.forest after (healthy c.item.new.self) h.own h.small refl c.push.ensures.items)

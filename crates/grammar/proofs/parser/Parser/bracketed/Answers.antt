@@ -1,17 +1,10 @@
 use Rattle.std.proofs.Common.{refl, arith, rules}
 use Rattle.grammar.specs.Parts.{forest}
 use Rattle.grammar.specs.declared.piece.Bracket.TheVariants.{Square, Curly}
-use Rattle.grammar.proofs.Finishing.{in_brackets}
 use Rattle.grammar.proofs.Soundness.{healthy}
 use Rattle.grammar.proofs.Rooting.{made_grows, made_clean, made_told}
 use Rattle.grammar.proofs.parser.Parser.bracketed.Goals as goal
 use Rattle.tree.specs.declared.class.Class.TheVariants.{Optional, Repetition}
-
-pub returns-in-Some-Square-clause-told : goal.returns-in-Some-Square-clause-told
-returns-in-Some-Square-clause-told c = in_brackets Optional Square c.args.closing c.args.inside (forest c.args.self.now) _ c.make.result (healthy c.args.self.now) (search rules) refl (made_told Optional 0 c.args.inside (forest c.args.self.now) _ c.make.result (healthy c.args.self.now) refl c.make.ensures.told c.make.ensures.loan)
-
-pub returns-in-Some-Curly-clause-told : goal.returns-in-Some-Curly-clause-told
-returns-in-Some-Curly-clause-told c = in_brackets Repetition Curly c.args.closing c.args.inside (forest c.args.self.now) _ c.make-in-Some-Curly.result (healthy c.args.self.now) (search rules) refl (made_told Repetition 0 c.args.inside (forest c.args.self.now) _ c.make-in-Some-Curly.result (healthy c.args.self.now) refl c.make-in-Some-Curly.ensures.told c.make-in-Some-Curly.ensures.loan)
 
 pub invariant_of-self : goal.invariant_of-self
 invariant_of-self c =

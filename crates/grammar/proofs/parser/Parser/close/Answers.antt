@@ -7,9 +7,6 @@ use Rattle.grammar.proofs.Finishing.{passed_on}
 use Rattle.grammar.proofs.Moves.{advanced, words_gone}
 use Rattle.grammar.proofs.parser.Parser.close.Goals as goal
 
-pub finish-requires : goal.finish-requires
-finish-requires c = (c.requires.1, c.requires.2)
-
 pub returns-in_err-node : goal.returns-in_err-node
 returns-in_err-node c = λ depth d.
     let r = reader c.args.self.now in

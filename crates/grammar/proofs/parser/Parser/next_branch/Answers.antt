@@ -7,17 +7,6 @@ use Rattle.grammar.proofs.Finishing.{passed_on}
 use Rattle.grammar.proofs.Moves.{advanced, words_gone}
 use Rattle.grammar.proofs.parser.Parser.next_branch.Goals as goal
 
-pub end_branch-requires : goal.end_branch-requires
-end_branch-requires c = c.requires.1
-
-pub returns-in_err-end_branch : goal.returns-in_err-end_branch
-returns-in_err-end_branch c =
-    let r = reader c.args.self.now in
-    let e = c.in_err-end_branch.field-0.0 in
-    let h = c.in_err-end_branch.ensures in
-    passed_on c.from_residual.result (NodesFull e.limit) _ _ c.from_residual.ensures.1
-    (subst (λ q. BranchRefused c.args.begin r q (NodesFull e.limit)) (sym h.beside) (branch_full r c.requires.0 c.args.begin (forest c.end_branch.new.self) e h.told))
-
 pub returns : goal.returns
 returns c =
     let r = reader c.args.self.now in

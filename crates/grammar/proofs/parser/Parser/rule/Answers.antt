@@ -5,9 +5,6 @@ use Rattle.grammar.proofs.Rooting.{still_clean}
 use Rattle.grammar.proofs.Ruling.{rule_rooted}
 use Rattle.grammar.proofs.parser.Parser.rule.Goals as goal
 
-pub branches-requires : goal.branches-requires
-branches-requires c = refl
-
 pub returns : goal.returns
 returns c =
     let b = c.in_ok-root.ensures in

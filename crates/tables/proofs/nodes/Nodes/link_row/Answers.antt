@@ -13,7 +13,3 @@ loop-i-preserved c =
     let joined = c.join_nodes.ensures in
     (joined.nodes ∙ ap (join _ _) c.loop-i.invariant.0 ∙ linked_more c.args.row.now c.loop-i.i (entries c.args.self.now) (omega arith) (omega arith), kept_more c.args.self.now c.loop-i.self c.join_nodes.new.self c.loop-i.invariant.1 joined.kept, joined.loan ∙ c.loop-i.invariant.2)
 
-pub returns-clause-nodes : goal.returns-clause-nodes
-returns-clause-nodes c =
-    let first : c.loop-i.i - 1 ≡ 0 = omega arith in
-    c.loop-i.invariant.0 ∙ ap (λ k. link (drop k c.args.row.now) (entries c.args.self.now)) first
