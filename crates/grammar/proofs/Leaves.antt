@@ -5,7 +5,7 @@ use Rattle.grammar.proofs.Moves.{fixed_same, fits, moved, fronted, tables_same}
 use Rattle.grammar.proofs.Rooting.{kept_place}
 use Rattle.grammar.specs.Forest.{nodes_of, roots_of, MadeOne, MadeNone}
 use Rattle.grammar.specs.Reader.{text_of, tokens_of, tables_of, fixed, NamedFirst, SpellingFirst, TerminalFirst, NodeRead, ItemRefused}
-use Rattle.grammar.specs.Words.{word_spot, piece_token, rest_of, Advanced}
+use Rattle.grammar.specs.Words.{name_entry, kind_entry, word_spot, piece_token, rest_of, Advanced}
 use Rattle.grammar.specs.Trees.{Forest}
 use Rattle.grammar.specs.Parts.{Reader}
 use Rattle.grammar.specs.declared.refusal.Refusal.TheVariants.{Misspelt, NamesFull, KindsFull, NodesFull}
@@ -36,29 +36,23 @@ module _ (r : Reader) (x : Word) where
   abbrev spot : Spot
   spot = word_spot (text_of r) x
 
-  abbrev name_entry : Name
-  name_entry = record { place = x.place; length = x.length; root = 1024 }
-
-  abbrev kind_entry : Spelling
-  kind_entry = record { place = x.place; length = x.length }
-
   module _ (first : NamedFirst r.words x) where
     name_first : tokens_of r ≡ name (word_spot (text_of r) x) ∷ rest_of (tokens_of r)
     name_first = first.first ∙ ap (λ p. piece_token p (word_spot (text_of r) x) ∷ rest_of (tokens_of r)) first.is
 
-    pub name_over : (names : Filling Name 64) (e : Full) → Refused (λ e. e.place) (λ e. e.length) (text_of r) (record { place = x.place; length = x.length; root = 1024 }) r.names names e
+    pub name_over : (names : Filling Name 64) (e : Full) → Refused (λ e. e.place) (λ e. e.length) (text_of r) (name_entry x) r.names names e
         → (depth : ℕ) → depth ≤ 32 → ItemRefused depth r (record { words = r.words; names = names; kinds = r.kinds; forest = r.forest; lenders = r.lenders }) (NamesFull x.place)
     name_over names e m depth d = record {
       same = ap (λ n. fixed (record { words = r.words; names = n; kinds = r.kinds; forest = r.forest; lenders = r.lenders })) m.same;
       told =
           λ bs deep rule l outer.
           fronted bs rule outer r (name spot) (rest_of (tokens_of r)) l name_first
-          ∙ name_names_full (fixed r).limits (rest_of (tokens_of r)) (fixed r).ending bs (record { tables = tables_of r; rule = rule; level = l; outer = outer }) spot (omega arith) (names_over (text_of r) r.names names name_entry refl e m);
+          ∙ name_names_full (fixed r).limits (rest_of (tokens_of r)) (fixed r).ending bs (record { tables = tables_of r; rule = rule; level = l; outer = outer }) spot (omega arith) (names_over (text_of r) r.names names (name_entry x) refl e m);
     }
 
-    module _ (names : Filling Name 64) (i : ℕ) (m : Numbered (λ e. e.place) (λ e. e.length) (text_of r) (record { place = x.place; length = x.length; root = 1024 }) r.names names i) (loan : names.table.ghost_name ≡ r.names.table.ghost_name) where
+    module _ (names : Filling Name 64) (i : ℕ) (m : Numbered (λ e. e.place) (λ e. e.length) (text_of r) (name_entry x) r.names names i) (loan : names.table.ghost_name ≡ r.names.table.ghost_name) where
       few_names : length (with_name (word_spot (text_of r) x) (tables_of r).names) ≤ (fixed r).limits.names
-      few_names = names_fit (text_of r) r.names names name_entry refl i m
+      few_names = names_fit (text_of r) r.names names (name_entry x) refl i m
 
       pub name_nodes_over : (forest : Forest) (e : Full) → MadeNone r.forest forest e
           → (depth : ℕ) → depth ≤ 32 → ItemRefused depth r (record { words = r.words; names = names; kinds = r.kinds; forest = forest; lenders = r.lenders }) (NodesFull e.limit)
@@ -81,9 +75,9 @@ module _ (r : Reader) (x : Word) where
         tables : (make_name (word_spot (text_of r) x) (tables_of r)).tables ≡ tables_of (record { words = after; names = names; kinds = r.kinds; forest = forest; lenders = r.lenders })
         tables =
             tables_same (with_name spot (tables_of r).names) (map (name_meant after.text.now) (entries names)) (tables_of r).kinds (map (kind_meant after.text.now) (entries r.kinds)) (add class_is.Name (find_name spot.bytes (tables_of r).names) 1024 (nodes_of r.forest)) (nodes_of forest)
-            (sym (names_are (text_of r) r.names names name_entry refl i m) ∙ ap (λ t. map (name_meant t) (entries names)) (sym a.text_same))
+            (sym (names_are (text_of r) r.names names (name_entry x) refl i m) ∙ ap (λ t. map (name_meant t) (entries names)) (sym a.text_same))
             (ap (λ t. map (kind_meant t) (entries r.kinds)) (sym a.text_same))
-            (ap (λ k. add class_is.Name k 1024 (nodes_of r.forest)) (sym (name_number (text_of r) r.names names name_entry refl i m)) ∙ sym h.nodes)
+            (ap (λ k. add class_is.Name k 1024 (nodes_of r.forest)) (sym (name_number (text_of r) r.names names (name_entry x) refl i m)) ∙ sym h.nodes)
 
         pub name_read : (few : length (roots_of r.forest) ≤ length (nodes_of r.forest)) (depth : ℕ) → depth ≤ 32 → NodeRead depth r (record { words = after; names = names; kinds = r.kinds; forest = forest; lenders = r.lenders }) n
         name_read few depth d = record {
@@ -100,19 +94,19 @@ module _ (r : Reader) (x : Word) where
         }
 
   module _ (first : TerminalFirst r.words x) where
-    pub token_over : (kinds : Filling Spelling 120) (e : Full) → Refused (λ e. e.place) (λ e. e.length) (text_of r) (record { place = x.place; length = x.length }) r.kinds kinds e
+    pub token_over : (kinds : Filling Spelling 120) (e : Full) → Refused (λ e. e.place) (λ e. e.length) (text_of r) (kind_entry x) r.kinds kinds e
         → (depth : ℕ) → depth ≤ 32 → ItemRefused depth r (record { words = r.words; names = r.names; kinds = kinds; forest = r.forest; lenders = r.lenders }) (KindsFull x.place)
     token_over kinds e m depth d = record {
       same = ap (λ n. fixed (record { words = r.words; names = r.names; kinds = n; forest = r.forest; lenders = r.lenders })) m.same;
       told =
           λ bs deep rule l outer.
           fronted bs rule outer r (terminal first.sort spot) (rest_of (tokens_of r)) l first.first
-          ∙ terminal_kinds_full (fixed r).limits (rest_of (tokens_of r)) (fixed r).ending bs (record { tables = tables_of r; rule = rule; level = l; outer = outer }) first.sort spot (omega arith) (fits r) first.spelt (kinds_over (text_of r) r.kinds kinds kind_entry e m);
+          ∙ terminal_kinds_full (fixed r).limits (rest_of (tokens_of r)) (fixed r).ending bs (record { tables = tables_of r; rule = rule; level = l; outer = outer }) first.sort spot (omega arith) (fits r) first.spelt (kinds_over (text_of r) r.kinds kinds (kind_entry x) e m);
     }
 
-    module _ (kinds : Filling Spelling 120) (i : ℕ) (m : Numbered (λ e. e.place) (λ e. e.length) (text_of r) (record { place = x.place; length = x.length }) r.kinds kinds i) (loan : kinds.table.ghost_name ≡ r.kinds.table.ghost_name) where
+    module _ (kinds : Filling Spelling 120) (i : ℕ) (m : Numbered (λ e. e.place) (λ e. e.length) (text_of r) (kind_entry x) r.kinds kinds i) (loan : kinds.table.ghost_name ≡ r.kinds.table.ghost_name) where
       few_kinds : length (with_kind (word_spot (text_of r) x) (tables_of r).kinds) ≤ (fixed r).limits.kinds
-      few_kinds = kinds_fit (text_of r) r.kinds kinds kind_entry i m
+      few_kinds = kinds_fit (text_of r) r.kinds kinds (kind_entry x) i m
 
       pub token_nodes_over : (forest : Forest) (e : Full) → MadeNone r.forest forest e
           → (depth : ℕ) → depth ≤ 32 → ItemRefused depth r (record { words = r.words; names = r.names; kinds = kinds; forest = forest; lenders = r.lenders }) (NodesFull e.limit)
@@ -136,8 +130,8 @@ module _ (r : Reader) (x : Word) where
         token_tables =
             tables_same (tables_of r).names (map (name_meant after.text.now) (entries r.names)) (with_kind spot (tables_of r).kinds) (map (kind_meant after.text.now) (entries kinds)) (add class_is.Token (suc (find_kind spot.bytes (tables_of r).kinds)) 1024 (nodes_of r.forest)) (nodes_of forest)
             (ap (λ t. map (name_meant t) (entries r.names)) (sym a.text_same))
-            (sym (kinds_are (text_of r) r.kinds kinds kind_entry i m) ∙ ap (λ t. map (kind_meant t) (entries kinds)) (sym a.text_same))
-            (ap (λ k. add class_is.Token k 1024 (nodes_of r.forest)) (sym (one_add_right i ∙ ap suc (kind_number (text_of r) r.kinds kinds kind_entry i m))) ∙ sym h.nodes)
+            (sym (kinds_are (text_of r) r.kinds kinds (kind_entry x) i m) ∙ ap (λ t. map (kind_meant t) (entries kinds)) (sym a.text_same))
+            (ap (λ k. add class_is.Token k 1024 (nodes_of r.forest)) (sym (one_add_right i ∙ ap suc (kind_number (text_of r) r.kinds kinds (kind_entry x) i m))) ∙ sym h.nodes)
 
         pub token_read : (few : length (roots_of r.forest) ≤ length (nodes_of r.forest)) (depth : ℕ) → depth ≤ 32 → NodeRead depth r (record { words = after; names = r.names; kinds = kinds; forest = forest; lenders = r.lenders }) n
         token_read few depth d = record {

@@ -1,11 +1,18 @@
--- What a call told where `map_err` gave its error another form.
-use Rattle.std.proofs.Common.{◌≡◌, sym, subst, rules, Ok, Err, Result, MatchResult}
+-- What numbering an entry tells, where the entry is made of a word and `map_err` tells of a full table.
+use Rattle.std.proofs.Common.{◌≡◌, ℕ, List, sym, subst, rules, Ok, Err, Result, MatchResult}
+use Rattle.grammar.specs.declared.refusal.Refusal.{Refusal}
+use Rattle.tables.specs.Numbering.{Numbered, Refused}
+use Rattle.tables.specs.declared.filling.Filling.{Filling}
+use Rattle.tables.specs.declared.full.Full.{Full}
 
-module _ {T E : Type 0} (D : Type 0) (A : T → Type 0) (B : E → Type 0) where
-  pub mapped_ok : (r : Result T E) (x : T) → MatchResult r (λ y. ◌≡◌ {A = Result T D} (Ok x) (Ok y)) (λ _. ⊥) → MatchResult r A B → A x
-  mapped_ok (Ok y) x same told = subst A (search (sym same, rules)) told
-  mapped_ok (Err e) x none told = absurd none
+module _ {E : Type 0} {L : ℕ} (begins spans : E → ℕ) (text : List ℕ) (before after : Filling E L) (given entry : E) (is : given ≡ entry) where
+  abbrev Told : Result ℕ Full → Type 0
+  Told r = MatchResult r (Numbered begins spans text given before after) (Refused begins spans text given before after)
 
-  pub mapped_err : {P : E → Type 0} (r : Result T E) (d : D) → MatchResult r (λ y. ◌≡◌ {A = Result T D} (Err d) (Ok y)) P → MatchResult r A B → (e : E) × P e × B e
-  mapped_err (Ok y) d none told = search (none, rules)
-  mapped_err (Err e) d same told = (e, same, told)
+  pub numbered : (r : Result ℕ Full) (i : ℕ) → MatchResult r (λ j. ◌≡◌ {A = Result ℕ Refusal} (Ok i) (Ok j)) (λ _. ⊥) → Told r → Numbered begins spans text entry before after i
+  numbered (Ok j) i same told = subst (λ e. Numbered begins spans text e before after i) is (subst (Numbered begins spans text given before after) (search (sym same, rules)) told)
+  numbered (Err e) i none told = absurd none
+
+  pub refused : {P : Full → Type 0} (r : Result ℕ Full) (d : Refusal) → MatchResult r (λ j. ◌≡◌ {A = Result ℕ Refusal} (Err d) (Ok j)) P → Told r → (e : Full) × P e × Refused begins spans text entry before after e
+  refused (Ok j) d none told = search (none, rules)
+  refused (Err e) d same told = (e, same, subst (λ x. Refused begins spans text x before after e) is told)

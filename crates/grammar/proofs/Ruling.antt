@@ -12,7 +12,7 @@ use Rattle.grammar.specs.Forest.{nodes_of, roots_of}
 use Rattle.grammar.specs.Reader.{text_of, tokens_of, tables_of, fixed}
 use Rattle.grammar.specs.Refusals.{RefusedAs}
 use Rattle.grammar.specs.Rules.{at_rule, at_arrow, HeadRead, HeadRefused, ArrowRead, ArrowRefused, RuleRead, NamesRuled, NamesLack, AllRead}
-use Rattle.grammar.specs.Words.{piece_token, word_spot, rest_of, WordTold, Advanced}
+use Rattle.grammar.specs.Words.{name_entry, piece_token, word_spot, rest_of, WordTold, Advanced}
 use Rattle.grammar.specs.Words as words
 use Rattle.grammar.specs.declared.piece.Piece.{Piece}
 use Rattle.grammar.specs.declared.piece.Piece.TheVariants as piece_is
@@ -99,19 +99,19 @@ module _ (r : Reader) (x : Word) (first : WordTold r.words x) where
   -- the name of a rule
   module _ (e : x.piece ≡ piece_is.Name) where
     abbrev entry : Name
-    entry = record { place = x.place; length = x.length; root = 1024 }
+    entry = name_entry x
 
     name_front : tokens_of r ≡ name (word_spot (text_of r) x) ∷ rest_of (tokens_of r)
     name_front = first ∙ ap (λ k. piece_token k spot ∷ rest) e
 
-    pub head_over : (names : Filling Name 64) (e : Full) → Refused (λ e. e.place) (λ e. e.length) (text_of r) (record { place = x.place; length = x.length; root = 1024 }) r.names names e
+    pub head_over : (names : Filling Name 64) (e : Full) → Refused (λ e. e.place) (λ e. e.length) (text_of r) (name_entry x) r.names names e
         → HeadRefused r (record { words = r.words; names = names; kinds = r.kinds; forest = r.forest; lenders = r.lenders }) (refusal_is.NamesFull x.place)
     head_over names e m = record {
       same = ap (λ n. fixed (record { words = r.words; names = n; kinds = r.kinds; forest = r.forest; lenders = r.lenders })) m.same;
       told = ready_front r (name spot) rest name_front ∙ head_names_full (fixed r).limits rest (fixed r).ending (tables_of r) spot (names_over (text_of r) r.names names entry refl e m);
     }
 
-    module _ (names : Filling Name 64) (i : ℕ) (m : Numbered (λ e. e.place) (λ e. e.length) (text_of r) (record { place = x.place; length = x.length; root = 1024 }) r.names names i) (loan : names.table.ghost_name ≡ r.names.table.ghost_name) where
+    module _ (names : Filling Name 64) (i : ℕ) (m : Numbered (λ e. e.place) (λ e. e.length) (text_of r) (name_entry x) r.names names i) (loan : names.table.ghost_name ≡ r.names.table.ghost_name) where
       few : length (with_name (word_spot (text_of r) x) (tables_of r).names) ≤ (fixed r).limits.names
       few = names_fit (text_of r) r.names names entry refl i m
 

@@ -22,21 +22,12 @@ all_in (x ∷ xs) = go (in_word x) (all_in xs)
 pub word_is : (b : ℕ) (rest bytes : List ℕ) (n : ℕ) → bytes ≡ b ∷ rest → is_ascii_alphabetic b ≡ true → n ≡ prefix_len in_word rest → eqb n (length rest) ≡ is_word bytes
 word_is b rest bytes n e letter run = ap (λ m. eqb m (length rest)) run ∙ all_in rest ∙ sym (ap is_word e ∙ ap (λ a. a && all_word_bytes rest) letter)
 
--- all but the first byte, as the checker reads `[_, rest @ ..]`
-abbrev pub after_first : List ℕ → List ℕ
-after_first bs = take (length bs - 1) (drop 1 bs)
-
 front_is : (xs : List ℕ) → take (length xs - 1) xs ≡ front xs
 front_is [] = refl
 front_is (x ∷ []) = refl
 front_is (x ∷ y ∷ ys) = let e : length (x ∷ y ∷ ys) - 1 ≡ suc (length (y ∷ ys) - 1) = omega arith in ap (λ n. take n (x ∷ y ∷ ys)) e ∙ ap (λ l. x ∷ l) (front_is (y ∷ ys))
 
-pub inside_is : (s : List ℕ) → take (length (after_first s) - 1) (after_first s) ≡ inner s
+-- what stands between the quotes, as the checker reads `[_, inside @ .., _]`
+pub inside_is : (s : List ℕ) → take (length s - 1 - 1) (drop 1 s) ≡ inner s
 inside_is [] = refl
-inside_is (q ∷ xs) = ap (λ l. take (length l - 1) l) (take_all (length (q ∷ xs) - 1) xs (omega arith)) ∙ front_is xs
-
-pub spelled_word : (s : List ℕ) (a : Bool) → a ≡ is_word (take (length (after_first s) - 1) (after_first s)) → a ≡ true → a ≡ is_spelling s
-spelled_word s a word yes' = yes' ∙ sym (ap (λ b. b || is_signs (inner s)) (ap is_word (sym (inside_is s)) ∙ sym word ∙ yes'))
-
-pub spelled_sign : (s : List ℕ) (a b : Bool) → a ≡ is_word (take (length (after_first s) - 1) (after_first s)) → a ≡ false → b ≡ is_signs (take (length (after_first s) - 1) (after_first s)) → b ≡ is_spelling s
-spelled_sign s a b word no' signs = signs ∙ ap is_signs (inside_is s) ∙ sym (ap (λ w. w || is_signs (inner s)) (ap is_word (sym (inside_is s)) ∙ sym word ∙ no'))
+inside_is (q ∷ xs) = ap (λ n. take (n - 1) xs) (omega arith) ∙ front_is xs

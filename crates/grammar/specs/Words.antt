@@ -9,14 +9,24 @@ use Rattle.grammar.specs.declared.refusal.Refusal.{Refusal}
 use Rattle.grammar.specs.declared.refusal.Refusal.TheVariants as refusal_is
 use Rattle.grammar.specs.declared.words.Word.{Word}
 use Rattle.grammar.specs.declared.words.Words.{Words}
+use Rattle.lexer.specs.declared.vocabulary.Spelling.{Spelling}
 use Rattle.notation.specs.Tokens as notation
 use Rattle.notation.specs.Tokens.{Spot, Token, Ending, end, fault}
 use Rattle.tables.specs.Meant.{spot_at}
+use Rattle.tables.specs.declared.name.Name.{Name}
 use Rattle.token.specs.Faults.{fault_number}
 use Rattle.token.specs.declared.token.Fault.{Fault}
 use Rattle.token.specs.declared.token.Next.{Next}
 use Rattle.token.specs.declared.token.Next.TheVariants as next_is
 use Rattle.tokens.specs.Layered.{layered_tokens, layered_ending}
+
+-- the entry of a name that is first met at a word, with no rule yet
+abbrev pub name_entry : Word → Name
+name_entry w = record { place = w.place; length = w.length; root = 1024 }
+
+-- the entry of a kind that is first met at a word
+abbrev pub kind_entry : Word → Spelling
+kind_entry w = record { place = w.place; length = w.length }
 
 abbrev pub bracket : Bracket → notation.Bracket
 bracket bracket_is.Round = notation.round

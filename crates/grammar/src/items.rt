@@ -26,14 +26,9 @@ impl Parser<'_, '_> {
         requires { NamedFirst self.old.words.now word }
         ensures { (depth : ℕ) → depth ≤ 32 → MatchResult result (ItemTold depth (reader self.old) (reader self.new)) (ItemRefused depth (reader self.old) (reader self.new)) }
     {
-        let entry = Name {
-            place: word.place,
-            length: word.length,
-            root: NONE,
-        };
         let name = self
             .names
-            .number(self.words.text, entry)
+            .number(self.words.text, Name::from(word))
             .map_err(|_| Refusal::NamesFull(word.place))?;
         let node = self.nodes.make(Class::Name, name as u16, NONE)?;
         self.words.advance();
@@ -45,13 +40,9 @@ impl Parser<'_, '_> {
         requires { TerminalFirst self.old.words.now word }
         ensures { (depth : ℕ) → depth ≤ 32 → MatchResult result (ItemTold depth (reader self.old) (reader self.new)) (ItemRefused depth (reader self.old) (reader self.new)) }
     {
-        let entry = Spelling {
-            place: word.place,
-            length: word.length,
-        };
         let kind = self
             .kinds
-            .number(self.words.text, entry)
+            .number(self.words.text, Spelling::from(word))
             .map_err(|_| Refusal::KindsFull(word.place))?;
         let node = self.nodes.make(Class::Token, kind as u16 + 1, NONE)?;
         self.words.advance();

@@ -11,7 +11,6 @@ use crate::refusal::Refusal;
 use crate::words::Word;
 use tables::Name;
 use token::Next;
-use tree::NONE;
 
 impl Parser<'_, '_> {
     // The name of a rule, which has none yet.
@@ -22,14 +21,9 @@ impl Parser<'_, '_> {
         if word.piece != Piece::Name {
             return Err(Refusal::Misplaced(word.place));
         }
-        let entry = Name {
-            place: word.place,
-            length: word.length,
-            root: NONE,
-        };
         let name = self
             .names
-            .number(self.words.text, entry)
+            .number(self.words.text, Name::from(word))
             .map_err(|_| Refusal::NamesFull(word.place))?;
         if self.names.has_rule(name) {
             return Err(Refusal::SecondRule(word.place));

@@ -26,13 +26,11 @@ fn is_sign_spelling(bytes: &[u8]) -> bool
 }
 
 // Whether a string may stand for a kind: between its quotes it has a word, or one or two sign bytes.
+#[tactic(auto, using(crate::proofs::Spelled::inside_is))]
 pub fn may_be_spelled(string: &[u8]) -> bool
     ensures { result ≡ is_spelling string.now }
 {
-    let [_, rest @ ..] = string else {
-        return false;
-    };
-    let [inside @ .., _] = rest else {
+    let [_, inside @ .., _] = string else {
         return false;
     };
     is_word(inside) || is_sign_spelling(inside)

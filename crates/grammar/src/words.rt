@@ -1,12 +1,14 @@
 // The tokens of a grammar's text, one by one.
 ghost use Rattle.std.specs.Prelude.{◌≡◌, MatchResult};
-ghost use Rattle.grammar.specs.Words.{AheadTold, WordTold, Stuck, Halted, Advanced};
+ghost use Rattle.grammar.specs.Words.{name_entry, kind_entry, AheadTold, WordTold, Stuck, Halted, Advanced};
 
 use crate::piece::{Piece, piece_of};
 use crate::refusal::Refusal;
-use tables::clip;
+use lexer::Spelling;
+use tables::{Name, clip};
 use token::{Fault, Next};
 use tokens::{Skipping, TextSource, TokenSource};
+use tree::NONE;
 
 // A token: what it is in the notation, and where the text has it.
 #[derive(Clone, Copy)]
@@ -14,6 +16,31 @@ pub(crate) struct Word {
     pub piece: Piece,
     pub place: usize,
     pub length: usize,
+}
+
+// The entry of a name that is first met here, with no rule yet.
+impl From<Word> for Name {
+    ghost from_gives = { λ x r. r ≡ name_entry x };
+
+    fn from(word: Word) -> Name {
+        Name {
+            place: word.place,
+            length: word.length,
+            root: NONE,
+        }
+    }
+}
+
+// The entry of a kind that is first met here.
+impl From<Word> for Spelling {
+    ghost from_gives = { λ x r. r ≡ kind_entry x };
+
+    fn from(word: Word) -> Spelling {
+        Spelling {
+            place: word.place,
+            length: word.length,
+        }
+    }
 }
 
 // The source of a text, and the text.
