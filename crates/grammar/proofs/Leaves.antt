@@ -1,12 +1,16 @@
 -- Names and terminals as items of a sequence.
-use Rattle.std.proofs.Common.{◌≡◌, ℕ, suc, ◌+◌, ◌<◌, ◌≤◌, false, not, List, [], ◌∷◌, map, length, sym, refl, ap, ◌∙◌, arith, length-append}
+use Rattle.std.proofs.Common.{◌≡◌, ℕ, suc, ◌+◌, ◌<◌, ◌≤◌, false, not, List, [], ◌∷◌, map, length, Ok, Err, Result, MatchResult, subst, sym, refl, ap, ◌∙◌, arith, length-append}
 use Rattle.grammar.proofs.Counted.{name_number, names_are, names_fit, names_over, kind_number, kinds_are, kinds_fit, kinds_over}
 use Rattle.grammar.proofs.Moves.{fixed_same, fits, moved, fronted, tables_same}
 use Rattle.grammar.proofs.Rooting.{kept_place}
 use Rattle.grammar.specs.Forest.{nodes_of, roots_of, MadeOne, MadeNone}
-use Rattle.grammar.specs.Reader.{text_of, tokens_of, tables_of, fixed, NamedFirst, SpellingFirst, TerminalFirst, NodeRead, ItemRefused}
+use Rattle.grammar.specs.Reader.{text_of, tokens_of, tables_of, fixed, NamedFirst, SpellingFirst, TerminalFirst, NodeRead, ItemTold, ItemRefused}
 use Rattle.grammar.specs.Words.{name_entry, kind_entry, word_spot, piece_token, rest_of, Advanced}
+use Rattle.grammar.specs.Leaf.{LeafRead, LeafRefused}
 use Rattle.grammar.specs.Trees.{Forest}
+use Rattle.grammar.specs.declared.items.Item.{Item}
+use Rattle.grammar.specs.declared.items.Item.TheVariants.{Node, Mark}
+use Rattle.grammar.specs.declared.refusal.Refusal.{Refusal}
 use Rattle.grammar.specs.Parts.{Reader}
 use Rattle.grammar.specs.declared.refusal.Refusal.TheVariants.{Misspelt, NamesFull, KindsFull, NodesFull}
 use Rattle.grammar.specs.declared.words.Word.{Word}
@@ -35,6 +39,13 @@ one_add_right i = omega arith
 module _ (r : Reader) (x : Word) where
   abbrev spot : Spot
   spot = word_spot (text_of r) x
+
+  -- the reader once an entry is numbered
+  abbrev numbered_names : Filling Name 64 → Reader
+  numbered_names names = record { words = r.words; names = names; kinds = r.kinds; forest = r.forest; lenders = r.lenders }
+
+  abbrev numbered_kinds : Filling Spelling 120 → Reader
+  numbered_kinds kinds = record { words = r.words; names = r.names; kinds = kinds; forest = r.forest; lenders = r.lenders }
 
   module _ (first : NamedFirst r.words x) where
     name_first : tokens_of r ≡ name (word_spot (text_of r) x) ∷ rest_of (tokens_of r)
@@ -93,6 +104,11 @@ module _ (r : Reader) (x : Word) where
               ∙ moved bs rule outer r q (make_name spot (tables_of r)).tables (rest_of (tokens_of r)) (one_more l (make_name spot (tables_of r)).at) (one_more l n) same tables (sym a.rest) (ap (one_more l) (sym h.number));
         }
 
+      pub name_leaf : (after : Reader) (res : Result Item Refusal) → MatchResult res (LeafRead class_is.Name i (numbered_names names) after) (LeafRefused (numbered_names names) after) → length (roots_of r.forest) ≤ length (nodes_of r.forest) → (depth : ℕ) → depth ≤ 32 → MatchResult res (ItemTold depth r after) (ItemRefused depth r after)
+      name_leaf after (Ok (Node n)) h few depth d = subst (λ q. NodeRead depth r q n) (sym h.beside) (name_read after.forest n h.made after.words h.went few depth d)
+      name_leaf after (Ok (Mark y)) none few depth d = absurd none
+      name_leaf after (Err e) h few depth d = rw (h.beside, h.told) (name_nodes_over after.forest h.full h.none depth d)
+
   module _ (first : TerminalFirst r.words x) where
     pub token_over : (kinds : Filling Spelling 120) (e : Full) → Refused (λ e. e.place) (λ e. e.length) (text_of r) (kind_entry x) r.kinds kinds e
         → (depth : ℕ) → depth ≤ 32 → ItemRefused depth r (record { words = r.words; names = r.names; kinds = kinds; forest = r.forest; lenders = r.lenders }) (KindsFull x.place)
@@ -146,6 +162,11 @@ module _ (r : Reader) (x : Word) where
               ∙ terminal_on (fixed r).limits (rest_of (tokens_of r)) (fixed r).ending bs (record { tables = tables_of r; rule = rule; level = l; outer = outer }) first.sort spot (omega arith) (fits r) first.spelt few_kinds h.room
               ∙ moved bs rule outer r q_token (make_token spot (tables_of r)).tables (rest_of (tokens_of r)) (one_more l (make_token spot (tables_of r)).at) (one_more l n) token_same token_tables (sym a.rest) (ap (one_more l) (sym h.number));
         }
+
+      pub token_leaf : (after : Reader) (res : Result Item Refusal) → MatchResult res (LeafRead class_is.Token (i + 1) (numbered_kinds kinds) after) (LeafRefused (numbered_kinds kinds) after) → length (roots_of r.forest) ≤ length (nodes_of r.forest) → (depth : ℕ) → depth ≤ 32 → MatchResult res (ItemTold depth r after) (ItemRefused depth r after)
+      token_leaf after (Ok (Node n)) h few depth d = subst (λ q. NodeRead depth r q n) (sym h.beside) (token_read after.forest n h.made after.words h.went few depth d)
+      token_leaf after (Ok (Mark y)) none few depth d = absurd none
+      token_leaf after (Err e) h few depth d = rw (h.beside, h.told) (token_nodes_over after.forest h.full h.none depth d)
 
 -- a spelling that may be none
 module _ (r : Reader) (x : Word) (first : SpellingFirst r.words x) (w : List ℕ) (is : w ≡ cut (text_of r) x.place x.length) where

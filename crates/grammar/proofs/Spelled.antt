@@ -1,11 +1,10 @@
 -- Quoted spellings, taken apart as the code takes them.
-use Rattle.std.proofs.Common.{◌≡◌, ℕ, suc, ◌+◌, ◌-◌, ◌<◌, Bool, true, false, cond, ◌&&◌, ◌||◌, eqb, List, [], ◌∷◌, length, take, drop, sym, refl, ap, ◌∙◌, ⊎_elim, arith}
+use Rattle.std.proofs.Common.{◌≡◌, ℕ, suc, ◌+◌, ◌-◌, Bool, true, false, cond, ◌&&◌, eqb, List, [], ◌∷◌, length, take, drop, sym, refl, ap, ◌∙◌, ⊎_elim, arith}
 use Rattle.std.specs.Char.{is_ascii_alphabetic}
 use Rattle.std.specs.List.{prefix_len}
-use Rattle.std.proofs.lemmas.List.{take_all}
 use Rattle.std.proofs.lemmas.Bool.{cases_eq, eq-eqb, ne_eqb}
 use Rattle.lexer.specs.Bytes.{in_word}
-use Rattle.notation.specs.Tokens.{all_word_bytes, is_word, is_signs, front, inner, is_spelling}
+use Rattle.notation.specs.Tokens.{all_word_bytes, is_word, front, inner}
 
 same_sooner : (m n : ℕ) → eqb (1 + m) (suc n) ≡ eqb m n
 same_sooner m n = ⊎_elim (λ e. eq-eqb (1 + m) (suc n) (omega arith) ∙ sym (eq-eqb m n e)) (λ d. ne_eqb (1 + m) (suc n) (λ e. d (omega arith)) ∙ sym (ne_eqb m n d)) (cases_eq m n)

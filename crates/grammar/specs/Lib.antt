@@ -2,6 +2,7 @@ pub mod Bodies
 pub mod Filled
 pub mod Forest
 pub mod Judged
+pub mod Leaf
 pub mod Notation
 pub mod Parts
 pub mod Pieces

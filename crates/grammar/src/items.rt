@@ -1,6 +1,7 @@
 // The items of sequences.
 ghost use Rattle.std.specs.Prelude.{◌≡◌, ℕ, ◌≤◌, MatchResult};
 ghost use Rattle.grammar.specs.Parts.{reader};
+ghost use Rattle.grammar.specs.Leaf.{LeafRead, LeafRefused};
 ghost use Rattle.grammar.specs.Reader.{NamedFirst, TerminalFirst, SpellingFirst, ItemTold, ItemRefused};
 
 use crate::parser::Parser;
@@ -20,8 +21,16 @@ pub(crate) enum Item {
 }
 
 impl Parser<'_, '_> {
-    // A name in a sequence. One text for this and the next would take the table, the class and the
-    // refusal as parameters.
+    // A node without children for the token that stands first, which is taken.
+    fn leaf(&mut self, class: Class, value: u16) -> Result<Item, Refusal>
+        ensures { MatchResult result (LeafRead class value (reader self.old) (reader self.new)) (LeafRefused (reader self.old) (reader self.new)) }
+    {
+        let node = self.nodes.make(class, value, NONE)?;
+        self.words.advance();
+        Ok(Item::Node(node))
+    }
+
+    // A name in a sequence.
     pub(crate) fn name_item(&mut self, word: Word) -> Result<Item, Refusal>
         requires { NamedFirst self.old.words.now word }
         ensures { (depth : ℕ) → depth ≤ 32 → MatchResult result (ItemTold depth (reader self.old) (reader self.new)) (ItemRefused depth (reader self.old) (reader self.new)) }
@@ -30,9 +39,7 @@ impl Parser<'_, '_> {
             .names
             .number(self.words.text, Name::from(word))
             .map_err(|_| Refusal::NamesFull(word.place))?;
-        let node = self.nodes.make(Class::Name, name as u16, NONE)?;
-        self.words.advance();
-        Ok(Item::Node(node))
+        self.leaf(Class::Name, name as u16)
     }
 
     // A class word or a quoted spelling in a sequence; kinds are numbered from 1.
@@ -44,9 +51,7 @@ impl Parser<'_, '_> {
             .kinds
             .number(self.words.text, Spelling::from(word))
             .map_err(|_| Refusal::KindsFull(word.place))?;
-        let node = self.nodes.make(Class::Token, kind as u16 + 1, NONE)?;
-        self.words.advance();
-        Ok(Item::Node(node))
+        self.leaf(Class::Token, kind as u16 + 1)
     }
 
     // A quoted spelling in a sequence.
