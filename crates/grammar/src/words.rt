@@ -9,7 +9,7 @@ use token::{Fault, Next};
 use tokens::{Skipping, TextSource, TokenSource};
 
 // A token: what it is in the notation, and where the text has it.
-#[derive(Clone, Copy)]
+#[derive(Clone, Copy, Debug)]
 pub(crate) struct Word {
     pub piece: Piece,
     pub place: usize,

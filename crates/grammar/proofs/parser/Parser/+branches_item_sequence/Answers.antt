@@ -49,4 +49,3 @@ item-returns-in_ok-node-in-Opening t c =
 
 pub sequence-loop-node-init : goal.sequence-loop-node-init
 sequence-loop-node-init t c = no_item_yet c.args.depth (reader c.args.self.now)
-
