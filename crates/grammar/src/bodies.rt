@@ -39,7 +39,7 @@ impl Parser<'_, '_> {
     // At the mark that ends branches.
     fn close(&mut self, opened: Opened) -> Result<u16, Refusal>
         requires { MarkFirst self.old.words.now (closing_token opened.closing) × (opened.begin ≤ length (roots self.old)) }
-        ensures { (depth : ℕ) → depth ≤ 32 → MatchResult result (Closed opened.closing depth (take opened.from (roots self.old)) (level_at opened.from opened.begin (roots self.old)) (reader self.old) (reader self.new)) (Unclosed opened.closing depth (level_at opened.from opened.begin (roots self.old)) (reader self.old) (reader self.new)) }
+        ensures { (depth : ℕ) → depth ≤ 32 → MatchResult result (Closed opened.closing depth (take opened.from (roots self.old)) (level_at opened (roots self.old)) (reader self.old) (reader self.new)) (Unclosed opened.closing depth (level_at opened (roots self.old)) (reader self.old) (reader self.new)) }
     {
         let node = self.finish(opened)?;
         self.words.advance();
@@ -49,7 +49,7 @@ impl Parser<'_, '_> {
     // At a mark that ends a sequence and is no bar: it ends the branches, or cannot stand here.
     fn end(&mut self, opened: Opened, mark: Word) -> Result<u16, Refusal>
         requires { WordTold self.old.words.now mark × Ends mark.piece × (mark.piece ≢ Bar) × (opened.begin ≤ length (roots self.old)) }
-        ensures { (depth : ℕ) → depth ≤ 32 → MatchResult result (Closed opened.closing depth (take opened.from (roots self.old)) (level_at opened.from opened.begin (roots self.old)) (reader self.old) (reader self.new)) (Unclosed opened.closing depth (level_at opened.from opened.begin (roots self.old)) (reader self.old) (reader self.new)) }
+        ensures { (depth : ℕ) → depth ≤ 32 → MatchResult result (Closed opened.closing depth (take opened.from (roots self.old)) (level_at opened (roots self.old)) (reader self.old) (reader self.new)) (Unclosed opened.closing depth (level_at opened (roots self.old)) (reader self.old) (reader self.new)) }
     {
         if mark.piece != closing_mark(opened.closing) {
             return Err(Refusal::Misplaced(mark.place));

@@ -50,7 +50,7 @@ impl Parser<'_, '_> {
     // At the mark that ends branches: their one node.
     pub(crate) fn finish(&mut self, opened: Opened) -> Result<u16, Full>
         requires { opened.begin ≤ length (roots_of (forest self.old)) }
-        ensures told { MatchResult result (Finished opened.closing opened.from opened.begin (forest self.old) (forest self.new)) (Unfinished opened.closing opened.from opened.begin (forest self.old) (forest self.new)) }
+        ensures told { MatchResult result (Finished opened (forest self.old) (forest self.new)) (Unfinished opened (forest self.old) (forest self.new)) }
         ensures beside { reader self.new ≡ with_forest (reader self.old) (forest self.new) }
     {
         self.end_branch(opened.begin)?;
