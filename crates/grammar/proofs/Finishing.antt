@@ -1,5 +1,5 @@
 -- Branches that end at a mark.
-use Rattle.std.proofs.Common.{◌≡◌, ℕ, ◌≤◌, min, List, [], ◌∷◌, ◌++◌, length, take, drop, IsErrAnd, Some, None, Ok, Err, Option, Result, sym, ap, ◌∙◌, subst, arith, length-append, MatchResult}
+use Rattle.std.proofs.Common.{◌≡◌, ℕ, ◌≤◌, min, List, [], ◌∷◌, ◌++◌, length, take, drop, IsErrAnd, Some, None, Ok, Err, Option, Result, sym, ap, ◌∙◌, subst, arith, MatchResult}
 use Rattle.std.proofs.lemmas.List.{length-take-le, take-take, take-append-le, drop-append-le}
 use Rattle.notation.specs.Tables.{add, link}
 use Rattle.notation.proofs.Grows.{length_link, length_add}
@@ -8,7 +8,7 @@ use Rattle.tables.specs.declared.full.Full.{Full}
 use Rattle.tree.specs.declared.class.Class.{Class}
 use Rattle.tree.specs.declared.class.Class.TheVariants as class_is
 use Rattle.tree.specs.declared.node.Node.{Node}
-use Rattle.grammar.specs.Forest.{nodes_of, roots_of, over_group, over_branches, over_inside, grouped, Healthy, MadeOne, MadeNone, Reduced, Unreduced, BranchEnded, BranchFull, Bracketed, Unbracketed, Finished, Pushed, Unfinished}
+use Rattle.grammar.specs.Forest.{nodes_of, roots_of, over_group, over_branches, over_inside, grouped, Reduced, BranchEnded, BranchFull, Bracketed, Unbracketed, Finished, Unfinished}
 use Rattle.grammar.specs.Trees.{Forest}
 use Rattle.grammar.specs.declared.opened.Opened.{Opened}
 use Rattle.grammar.specs.declared.piece.Bracket.{Bracket}

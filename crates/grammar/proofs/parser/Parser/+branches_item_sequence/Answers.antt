@@ -1,13 +1,9 @@
-use Rattle.std.proofs.Common.{◌≡◌, refl, subst, arith, rules}
+use Rattle.std.proofs.Common.{◌≡◌, arith, rules}
 use Rattle.grammar.specs.Parts.{reader}
-use Rattle.grammar.specs.Trees.{Forest}
-use Rattle.grammar.specs.Reader.{ItemTold, NodeRead}
 use Rattle.grammar.specs.declared.piece.Piece.TheVariants.{Bar}
-use Rattle.grammar.proofs.Cycle.{no_branch_yet, low_high, high_within, bar_first, branch_more, branch_unclosed, all_closed, depth_fits}
+use Rattle.grammar.proofs.Cycle.{high_within, bar_first, branch_more, branch_unclosed, all_closed, depth_fits}
 use Rattle.grammar.proofs.Finishing.{passed_on}
-use Rattle.grammar.proofs.Rooting.{pushed_root}
-use Rattle.grammar.proofs.Soundness.{healthy}
-use Rattle.grammar.proofs.Sequences.{no_item_yet, item_more, arrow_unread, group_too_deep, group_read, group_unread}
+use Rattle.grammar.proofs.Sequences.{no_item_yet, arrow_unread, group_too_deep, group_read, group_unread}
 use Rattle.grammar.proofs.parser.Parser.+branches_item_sequence.Goals as goal
 
 pub branches-returns-then-ne : goal.branches-returns-then-ne

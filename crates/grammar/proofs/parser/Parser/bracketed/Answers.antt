@@ -1,8 +1,5 @@
-use Rattle.std.proofs.Common.{refl, arith, rules}
-use Rattle.grammar.specs.Parts.{forest}
-use Rattle.grammar.specs.declared.piece.Bracket.TheVariants.{Square, Curly}
-use Rattle.grammar.proofs.Soundness.{healthy}
-use Rattle.grammar.proofs.Rooting.{made_grows, made_clean, made_told}
+use Rattle.std.proofs.Common.{arith}
+use Rattle.grammar.proofs.Rooting.{made_grows, made_clean}
 use Rattle.grammar.proofs.parser.Parser.bracketed.Goals as goal
 use Rattle.tree.specs.declared.class.Class.TheVariants.{Optional, Repetition}
 

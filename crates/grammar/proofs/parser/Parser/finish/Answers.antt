@@ -1,5 +1,4 @@
-use Rattle.std.proofs.Common.{ap, ◌∙◌}
-use Rattle.grammar.specs.Parts.{forest, with_forest}
+use Rattle.grammar.specs.Parts.{forest}
 use Rattle.grammar.proofs.Finishing.{passed_on, chain_over}
 use Rattle.grammar.proofs.parser.Parser.finish.Goals as goal
 

@@ -1,9 +1,7 @@
 use Rattle.std.proofs.Common.{sym, ap, subst}
-use Rattle.grammar.specs.Bodies.{BranchRead, BranchRefused}
+use Rattle.grammar.specs.Bodies.{BranchRead}
 use Rattle.grammar.specs.Parts.{reader, forest}
-use Rattle.grammar.specs.declared.refusal.Refusal.TheVariants.{NodesFull}
-use Rattle.grammar.proofs.Closing.{branch_full, branch_read}
-use Rattle.grammar.proofs.Finishing.{passed_on}
+use Rattle.grammar.proofs.Closing.{branch_read}
 use Rattle.grammar.proofs.Moves.{advanced, words_gone}
 use Rattle.grammar.proofs.parser.Parser.next_branch.Goals as goal
 

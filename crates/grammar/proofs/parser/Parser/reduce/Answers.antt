@@ -1,9 +1,8 @@
 use Rattle.std.proofs.Common.{drop, ap, ◌∙◌, arith}
 use Rattle.std.proofs.lemmas.List.{take_rest}
 use Rattle.grammar.specs.Parts.{forest}
-use Rattle.grammar.proofs.Finishing.{passed_on}
 use Rattle.grammar.proofs.Soundness.{healthy}
-use Rattle.grammar.proofs.Rooting.{still_clean, refused_grows, reduced, unreduced}
+use Rattle.grammar.proofs.Rooting.{still_clean, refused_grows, reduced}
 use Rattle.tables.specs.Nodes.{zero_node}
 use Rattle.grammar.proofs.parser.Parser.reduce.Goals as goal
 

@@ -1,4 +1,3 @@
-use Rattle.std.proofs.Common.{refl}
 use Rattle.grammar.specs.Parts.{reader}
 use Rattle.grammar.specs.Sound.{zero_name}
 use Rattle.grammar.proofs.Rooting.{still_clean}
