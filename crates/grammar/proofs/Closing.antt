@@ -7,6 +7,7 @@ use Rattle.grammar.specs.Forest.{nodes_of, roots_of, place, over_group, over_bra
 use Rattle.grammar.specs.Reader.{tokens_of, tables_of, fixed, standing_ready}
 use Rattle.grammar.specs.Words.{bracket, rest_of, Advanced}
 use Rattle.grammar.specs.Trees.{Forest}
+use Rattle.grammar.specs.declared.opened.Opened.{Opened}
 use Rattle.grammar.specs.declared.piece.Bracket.{Bracket as BracketOf}
 use Rattle.grammar.specs.declared.piece.Bracket.TheVariants as bracket_is
 use Rattle.grammar.specs.Parts.{Reader}
@@ -119,15 +120,18 @@ module _ (r : Reader) (first : MarkFirst r.words bar) (begin : ℕ) where
   }
 
 -- the mark after branches
-module _ (r : Reader) (from begin : ℕ) where
+module _ (r : Reader) (from begin : ℕ) (ordered : from ≤ begin) where
+  abbrev pub with_mark : Option BracketOf → Opened
+  with_mark c = record { closing = c; from = from; begin = begin; ordered = ordered }
+
   abbrev level : Level
-  level = level_at from begin (roots_of r.forest)
+  level = record { ended = drop from (take begin (roots_of r.forest)); items = drop begin (roots_of r.forest) }
 
   abbrev rest : List Token
   rest = rest_of (tokens_of r)
 
-  full_told : (c : Option BracketOf) (first : MarkFirst r.words (closing_token c)) (forest : Forest) (e : Full) → Unfinished c from begin r.forest forest e
-      → (depth : ℕ) → depth ≤ 32 → EndedRefused c depth r (level_at from begin (roots_of r.forest)) (NodesFull e.limit)
+  full_told : (c : Option BracketOf) (first : MarkFirst r.words (closing_token c)) (forest : Forest) (e : Full) → Unfinished (with_mark c) r.forest forest e
+      → (depth : ℕ) → depth ≤ 32 → EndedRefused c depth r (level_at (with_mark c) (roots_of r.forest)) (NodesFull e.limit)
   full_told None first forest e h depth d =
       λ rule.
       fronted [] rule tt r (semi first.spot) rest level first.first
@@ -141,12 +145,12 @@ module _ (r : Reader) (from begin : ℕ) where
       (omega (arith, h.full, ap (λ M. length M.tables.nodes) (closed_row b level.ended level.items (tables_of r))))
       ∙ ap (λ n. refused (nodes_full n)) (sym h.told)
 
-  pub closed_full : (c : Option BracketOf) (first : MarkFirst r.words (closing_token c)) (forest : Forest) (e : Full) → Unfinished c from begin r.forest forest e
-      → (depth : ℕ) → depth ≤ 32 → Unclosed c depth (level_at from begin (roots_of r.forest)) r (record { words = r.words; names = r.names; kinds = r.kinds; forest = forest; lenders = r.lenders }) (NodesFull e.limit)
+  pub closed_full : (c : Option BracketOf) (first : MarkFirst r.words (closing_token c)) (forest : Forest) (e : Full) → Unfinished (with_mark c) r.forest forest e
+      → (depth : ℕ) → depth ≤ 32 → Unclosed c depth (level_at (with_mark c) (roots_of r.forest)) r (record { words = r.words; names = r.names; kinds = r.kinds; forest = forest; lenders = r.lenders }) (NodesFull e.limit)
   closed_full c first forest e h depth d = record { same = half_same r forest h.place; told = full_told c first forest e h depth d }
 
-  closed_goes : (c : Option BracketOf) (first : MarkFirst r.words (closing_token c)) (forest : Forest) (n : ℕ) (h : Finished c from begin r.forest forest n) (after : Words) (a : Advanced r.words after)
-      → (depth : ℕ) → depth ≤ 32 → EndedGoes c depth r (record { words = after; names = r.names; kinds = r.kinds; forest = forest; lenders = r.lenders }) (level_at from begin (roots_of r.forest)) n
+  closed_goes : (c : Option BracketOf) (first : MarkFirst r.words (closing_token c)) (forest : Forest) (n : ℕ) (h : Finished (with_mark c) r.forest forest n) (after : Words) (a : Advanced r.words after)
+      → (depth : ℕ) → depth ≤ 32 → EndedGoes c depth r (record { words = after; names = r.names; kinds = r.kinds; forest = forest; lenders = r.lenders }) (level_at (with_mark c) (roots_of r.forest)) n
   closed_goes None first forest n h after a depth d =
       λ rule.
       let q : Reader = record { words = after; names = r.names; kinds = r.kinds; forest = forest; lenders = r.lenders } in
@@ -170,8 +174,8 @@ module _ (r : Reader) (from begin : ℕ) where
       ∙ moved bs rule outer r q ended.tables rest (one_more around ended.at) (one_more around n) (grown_same r forest h.place after a)
       (ap (λ M. M.tables) row ∙ grown_tables r forest h.place after a M.nodes h.nodes) (sym a.rest) (ap (λ M. one_more around M.at) row ∙ ap (one_more around) (sym h.number))
 
-  pub closed_read : (c : Option BracketOf) (first : MarkFirst r.words (closing_token c)) (forest : Forest) (n : ℕ) (h : Finished c from begin r.forest forest n) (after : Words) (a : Advanced r.words after)
-      → (depth : ℕ) → depth ≤ 32 → Closed c depth (take from (roots_of r.forest)) (level_at from begin (roots_of r.forest)) r (record { words = after; names = r.names; kinds = r.kinds; forest = forest; lenders = r.lenders }) n
+  pub closed_read : (c : Option BracketOf) (first : MarkFirst r.words (closing_token c)) (forest : Forest) (n : ℕ) (h : Finished (with_mark c) r.forest forest n) (after : Words) (a : Advanced r.words after)
+      → (depth : ℕ) → depth ≤ 32 → Closed c depth (take from (roots_of r.forest)) (level_at (with_mark c) (roots_of r.forest)) r (record { words = after; names = r.names; kinds = r.kinds; forest = forest; lenders = r.lenders }) n
   closed_read c first forest n h after a depth d = record {
     same = grown_same r forest h.place after a;
     roots_left = h.fewer;

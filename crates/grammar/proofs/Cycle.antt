@@ -6,6 +6,7 @@ use Rattle.grammar.specs.Forest.{roots_of}
 use Rattle.grammar.specs.Reader.{text_of, tokens_of, standing, fixed}
 use Rattle.grammar.specs.Refusals.{RefusedAs}
 use Rattle.grammar.specs.Words.{bracket, piece_token, word_spot, rest_of}
+use Rattle.grammar.specs.declared.opened.Opened.{Opened}
 use Rattle.grammar.specs.declared.piece.Bracket.{Bracket as BracketOf}
 use Rattle.grammar.specs.declared.piece.Piece.TheVariants as piece_is
 use Rattle.grammar.specs.Parts.{Reader}
@@ -67,12 +68,15 @@ module _ (depth : ℕ) (r m n : Reader) (b : BranchesOn depth r m) (x : Word) (q
   pub high_within : begin ≤ length (roots_of n.forest)
   high_within = omega (arith, ap length q.on.more, length-append (roots_of m.forest) items)
 
+  abbrev pub at_mark : Option BracketOf → Opened
+  at_mark c = record { closing = c; from = from; begin = begin; ordered = low_high }
+
   -- the level of the branches, as it is at the mark
   to_items : (bs : List Bracket) → length bs ≡ depth → (rule : ℕ) (outer : Levels bs) → standing r bs rule no_level outer ≡ standing n bs rule (record { ended = b.ended; items = drop begin (roots_of n.forest) }) outer
   to_items bs deep rule outer =
       b.goes bs deep rule outer ∙ q.on.goes bs deep rule (record { ended = b.ended; items = [] }) outer ∙ ap (λ l. standing n bs rule (record { ended = b.ended; items = l }) outer) (sym items_part)
 
-  to_level : (bs : List Bracket) → length bs ≡ depth → (rule : ℕ) (outer : Levels bs) → standing r bs rule no_level outer ≡ standing n bs rule (level_at from begin (roots_of n.forest)) outer
+  to_level : (bs : List Bracket) → length bs ≡ depth → (rule : ℕ) (outer : Levels bs) → standing r bs rule no_level outer ≡ standing n bs rule (record { ended = drop from (take begin (roots_of n.forest)); items = drop begin (roots_of n.forest) }) outer
   to_level bs deep rule outer = to_items bs deep rule outer ∙ ap (λ l. standing n bs rule (record { ended = l; items = drop begin (roots_of n.forest) }) outer) (sym ended_is)
 
   -- a bar
@@ -97,18 +101,18 @@ module _ (depth : ℕ) (r m n : Reader) (b : BranchesOn depth r m) (x : Word) (q
   }
 
   -- the mark that ends the branches
-  goes_to_end : (c : Option BracketOf) → FitsDepth c depth → (after : Reader) (k : ℕ) → EndedGoes c depth n after (level_at from begin (roots_of n.forest)) k → EndedGoes c depth r after no_level k
+  goes_to_end : (c : Option BracketOf) → FitsDepth c depth → (after : Reader) (k : ℕ) → EndedGoes c depth n after (level_at (at_mark c) (roots_of n.forest)) k → EndedGoes c depth r after no_level k
   goes_to_end None d after k g = λ rule. to_level [] (sym d) rule tt ∙ g rule
   goes_to_end (Some b) d after k g = λ bs deep rule around outer. to_level (bracket b ∷ bs) deep rule (around, outer) ∙ g bs deep rule around outer
 
-  refused_to_end : (c : Option BracketOf) → FitsDepth c depth → (e : Refusal) → EndedRefused c depth n (level_at from begin (roots_of n.forest)) e → EndedRefused c depth r no_level e
-  refused_to_end None d e g = λ rule. refused_so e (standing r [] rule no_level tt) (standing n [] rule (level_at from begin (roots_of n.forest)) tt) (to_level [] (sym d) rule tt) (g rule)
+  refused_to_end : (c : Option BracketOf) → FitsDepth c depth → (e : Refusal) → EndedRefused c depth n (level_at (at_mark c) (roots_of n.forest)) e → EndedRefused c depth r no_level e
+  refused_to_end None d e g = λ rule. refused_so e (standing r [] rule no_level tt) (standing n [] rule (level_at (at_mark None) (roots_of n.forest)) tt) (to_level [] (sym d) rule tt) (g rule)
   refused_to_end (Some b) d e g =
       λ bs deep rule around outer.
-      refused_so e (standing r (bracket b ∷ bs) rule no_level (around, outer)) (standing n (bracket b ∷ bs) rule (level_at from begin (roots_of n.forest)) (around, outer)) (to_level (bracket b ∷ bs) deep rule (around, outer)) (g bs deep rule around outer)
+      refused_so e (standing r (bracket b ∷ bs) rule no_level (around, outer)) (standing n (bracket b ∷ bs) rule (level_at (at_mark (Some b)) (roots_of n.forest)) (around, outer)) (to_level (bracket b ∷ bs) deep rule (around, outer)) (g bs deep rule around outer)
 
   pub all_closed : (c : Option BracketOf) → FitsDepth c depth → (after : Reader) (res : Result ℕ Refusal)
-      → ((k : ℕ) → k ≤ 32 → MatchResult res (Closed c k (take from (roots_of n.forest)) (level_at from begin (roots_of n.forest)) n after) (Unclosed c k (level_at from begin (roots_of n.forest)) n after))
+      → ((k : ℕ) → k ≤ 32 → MatchResult res (Closed c k (take from (roots_of n.forest)) (level_at (at_mark c) (roots_of n.forest)) n after) (Unclosed c k (level_at (at_mark c) (roots_of n.forest)) n after))
       → MatchResult res (Closed c depth (roots_of r.forest) no_level r after) (Unclosed c depth no_level r after)
   all_closed c d after (Ok k) h =
       let g = h depth (depth_fits c depth d) in

@@ -10,6 +10,7 @@ use Rattle.tree.specs.declared.class.Class.TheVariants as class_is
 use Rattle.tree.specs.declared.node.Node.{Node}
 use Rattle.grammar.specs.Forest.{nodes_of, roots_of, over_group, over_branches, over_inside, grouped, Reduced, BranchEnded, BranchFull, Bracketed, Unbracketed, Finished, Unfinished}
 use Rattle.grammar.specs.Trees.{Forest}
+use Rattle.grammar.specs.declared.opened.Opened.{Opened}
 use Rattle.grammar.specs.declared.piece.Bracket.{Bracket}
 use Rattle.grammar.specs.declared.piece.Bracket.TheVariants as bracket_is
 
@@ -37,41 +38,41 @@ made_is M ns n nodes at = subst (λ k. record { nodes = ns; at = k } ≡ M) (sym
 abbrev over_one : Class → ℕ → Forest → Made
 over_one k inside f = record { nodes = add k 0 inside (nodes_of f); at = length (nodes_of f) }
 
-module _ (closing : Option Bracket) (from begin : ℕ) (before : Forest) where
+module _ (o : Opened) (before : Forest) where
   -- the last branch, and all of them
   abbrev last : Made
-  last = over_row class_is.Chain (drop begin (roots_of before)) (nodes_of before)
+  last = over_row class_is.Chain (drop o.begin (roots_of before)) (nodes_of before)
 
   abbrev branches : Made
-  branches = over_branches (drop from (take begin (roots_of before))) (drop begin (roots_of before)) (nodes_of before)
+  branches = over_branches (drop o.from (take o.begin (roots_of before))) (drop o.begin (roots_of before)) (nodes_of before)
 
-  branches_grow : length (over_row class_is.Chain (drop begin (roots_of before)) (nodes_of before)).nodes ≤ length (grouped closing from begin before).nodes
+  branches_grow : length (over_row class_is.Chain (drop o.begin (roots_of before)) (nodes_of before)).nodes ≤ length (grouped o before).nodes
   branches_grow =
-      let a = row_grows class_is.Alternative (drop from (take begin (roots_of before)) ++ last.at ∷ []) last.nodes in
-      let b = group_grows closing branches in
+      let a = row_grows class_is.Alternative (drop o.from (take o.begin (roots_of before)) ++ last.at ∷ []) last.nodes in
+      let b = group_grows o.closing branches in
       omega arith
 
-  pub chain_over : (after : Forest) (e : Full) → BranchFull begin before after e → Unfinished closing from begin before after e
+  pub chain_over : (after : Forest) (e : Full) → BranchFull o.begin before after e → Unfinished o before after e
   chain_over after e h = record { full = omega (arith, branches_grow, h.full); told = h.told; place = h.place }
 
-  module _ (lower : from ≤ begin) (within : begin ≤ length (roots_of before)) (mid : Forest) (ended : BranchEnded begin before mid) where
-    long : length (take begin (roots_of before)) ≡ begin
-    long = length-take-le begin (roots_of before) within
+  module _ (within : o.begin ≤ length (roots_of before)) (mid : Forest) (ended : BranchEnded o.begin before mid) where
+    long : length (take o.begin (roots_of before)) ≡ o.begin
+    long = length-take-le o.begin (roots_of before) within
 
-    kept : take from (roots_of mid) ≡ take from (roots_of before)
-    kept = ap (take from) ended.more ∙ take-append-le from (take begin (roots_of before)) (last.at ∷ []) (omega (arith, long)) ∙ take-take from begin (roots_of before) lower
+    kept : take o.from (roots_of mid) ≡ take o.from (roots_of before)
+    kept = ap (take o.from) ended.more ∙ take-append-le o.from (take o.begin (roots_of before)) (last.at ∷ []) (omega (arith, long, o.ordered)) ∙ take-take o.from o.begin (roots_of before) o.ordered
 
-    row : drop from (roots_of mid) ≡ drop from (take begin (roots_of before)) ++ (over_row class_is.Chain (drop begin (roots_of before)) (nodes_of before)).at ∷ []
-    row = ap (drop from) ended.more ∙ drop-append-le from (take begin (roots_of before)) (last.at ∷ []) (omega (arith, long))
+    row : drop o.from (roots_of mid) ≡ drop o.from (take o.begin (roots_of before)) ++ (over_row class_is.Chain (drop o.begin (roots_of before)) (nodes_of before)).at ∷ []
+    row = ap (drop o.from) ended.more ∙ drop-append-le o.from (take o.begin (roots_of before)) (last.at ∷ []) (omega (arith, long, o.ordered))
 
-    over : over_row class_is.Alternative (drop from (roots_of mid)) (nodes_of mid) ≡ over_branches (drop from (take begin (roots_of before))) (drop begin (roots_of before)) (nodes_of before)
-    over = ap (λ r. over_row class_is.Alternative r (nodes_of mid)) row ∙ ap (over_row class_is.Alternative (drop from (take begin (roots_of before)) ++ last.at ∷ [])) ended.nodes
+    over : over_row class_is.Alternative (drop o.from (roots_of mid)) (nodes_of mid) ≡ over_branches (drop o.from (take o.begin (roots_of before))) (drop o.begin (roots_of before)) (nodes_of before)
+    over = ap (λ r. over_row class_is.Alternative r (nodes_of mid)) row ∙ ap (over_row class_is.Alternative (drop o.from (take o.begin (roots_of before)) ++ last.at ∷ [])) ended.nodes
 
-    module _ (inner : Forest) (inside : ℕ) (reduced : Reduced class_is.Alternative from mid inner inside) where
-      group : over_inside closing inside inner ≡ grouped closing from begin before
-      group = ap (over_group closing) (made_is branches (nodes_of inner) inside (reduced.nodes ∙ ap (λ M. M.nodes) over) (reduced.number ∙ ap (λ M. M.at) over))
+    module _ (inner : Forest) (inside : ℕ) (reduced : Reduced class_is.Alternative o.from mid inner inside) where
+      group : over_inside o.closing inside inner ≡ grouped o before
+      group = ap (over_group o.closing) (made_is branches (nodes_of inner) inside (reduced.nodes ∙ ap (λ M. M.nodes) over) (reduced.number ∙ ap (λ M. M.at) over))
 
-      group_over : (after : Forest) (e : Full) → Unbracketed closing inside inner after e → Unfinished closing from begin before after e
+      group_over : (after : Forest) (e : Full) → Unbracketed o.closing inside inner after e → Unfinished o before after e
       group_over after e h =
           let same = reduced.place ∙ ended.place in
           let long = ap (λ p. p.long) same in
@@ -81,7 +82,7 @@ module _ (closing : Option Bracket) (from begin : ℕ) (before : Forest) where
             place = h.place ∙ same;
           }
 
-      finished : (after : Forest) (n : ℕ) → Bracketed closing inside inner after n → Finished closing from begin before after n
+      finished : (after : Forest) (n : ℕ) → Bracketed o.closing inside inner after n → Finished o before after n
       finished after n h =
           let same = reduced.place ∙ ended.place in
           let long = ap (λ p. p.long) same in

@@ -4,6 +4,7 @@ use Rattle.grammar.specs.Forest.{nodes_of, roots_of}
 use Rattle.grammar.specs.Reader.{tokens_of, tables_of, fixed, standing, standing_ready, Ends}
 use Rattle.grammar.specs.Refusals.{RefusedAs}
 use Rattle.grammar.specs.Words.{bracket, tokens, rest_of, WordTold}
+use Rattle.grammar.specs.declared.opened.Opened.{Opened}
 use Rattle.grammar.specs.declared.piece.Bracket.{Bracket as BracketOf}
 use Rattle.grammar.specs.declared.piece.Piece.{Piece}
 use Rattle.grammar.specs.declared.piece.Piece.TheVariants as piece_is
@@ -29,9 +30,9 @@ pub record MarkFirst (w : Words) (mark : Spot → Token) : Type 0 where
   pub spot : Spot
   pub first : tokens w ≡ mark spot ∷ rest_of (tokens w)
 
--- the roots from an index on are branches that have ended, up to those of the last sequence
-abbrev pub level_at : (from begin : ℕ) → List ℕ → Level
-level_at from begin ns = record { ended = drop from (take begin ns); items = drop begin ns }
+-- the roots are branches that have ended, and the items of the last sequence
+abbrev pub level_at : Opened → List ℕ → Level
+level_at o ns = record { ended = drop o.from (take o.begin ns); items = drop o.begin ns }
 
 -- a sequence has ended at a bar
 pub record BranchRead (begin : ℕ) (before after : Reader) : Type 0 where

@@ -1,6 +1,7 @@
 -- The trees of a rule that is being read.
 use Rattle.std.specs.Prelude.{◌≡◌, ℕ, ◌-◌, ◌<◌, ◌≤◌, List, [], ◌∷◌, ◌++◌, length, take, drop, replicate, Some, None, Option}
 use Rattle.grammar.specs.Trees.{Forest}
+use Rattle.grammar.specs.declared.opened.Opened.{Opened}
 use Rattle.grammar.specs.declared.piece.Bracket.{Bracket}
 use Rattle.grammar.specs.declared.piece.Bracket.TheVariants as bracket_is
 use Rattle.notation.specs.Statements.{Each}
@@ -124,21 +125,21 @@ pub record Unbracketed (c : Option Bracket) (inside : ℕ) (before after : Fores
   pub told : e.limit ≡ limit_of before
   pub place : SamePlace before after
 
--- what branches and their mark come to, by the roots from two indices on
-abbrev pub grouped : Option Bracket → (from begin : ℕ) → Forest → Made
-grouped c from begin f = over_group c (over_branches (drop from (take begin (roots_of f))) (drop begin (roots_of f)) (nodes_of f))
+-- what branches and their mark come to
+abbrev pub grouped : Opened → Forest → Made
+grouped o f = over_group o.closing (over_branches (drop o.from (take o.begin (roots_of f))) (drop o.begin (roots_of f)) (nodes_of f))
 
-pub record Finished (c : Option Bracket) (from begin : ℕ) (before after : Forest) (n : ℕ) : Type 0 where
-  pub number : n ≡ (grouped c from begin before).at
-  pub nodes : nodes_of after ≡ (grouped c from begin before).nodes
-  pub fewer : roots_of after ≡ take from (roots_of before)
+pub record Finished (o : Opened) (before after : Forest) (n : ℕ) : Type 0 where
+  pub number : n ≡ (grouped o before).at
+  pub nodes : nodes_of after ≡ (grouped o before).nodes
+  pub fewer : roots_of after ≡ take o.from (roots_of before)
   pub fits : length (nodes_of after) ≤ limit_of before
   pub own : length (roots_of after) < length (nodes_of after)
   pub small : n < 1024
   pub healthy : Healthy after
   pub place : SamePlace before after
 
-pub record Unfinished (c : Option Bracket) (from begin : ℕ) (before after : Forest) (e : Full) : Type 0 where
-  pub full : limit_of before < length (grouped c from begin before).nodes
+pub record Unfinished (o : Opened) (before after : Forest) (e : Full) : Type 0 where
+  pub full : limit_of before < length (grouped o before).nodes
   pub told : e.limit ≡ limit_of before
   pub place : SamePlace before after

@@ -9,6 +9,7 @@ ghost use Rattle.grammar.specs.Reader.{ItemTold, ItemRefused, Ends};
 ghost use Rattle.grammar.specs.Bodies.{closing_piece, closing_token, level_at, MarkFirst, BranchRead, BranchRefused, FitsDepth, Closed, Unclosed, SequenceRead};
 
 use crate::items::Item;
+use crate::opened::Opened;
 use crate::parser::Parser;
 use crate::piece::{Bracket, Piece};
 use crate::refusal::Refusal;
@@ -36,30 +37,24 @@ impl Parser<'_, '_> {
     }
 
     // At the mark that ends branches.
-    fn close(&mut self, closing: Option<Bracket>, from: usize, begin: usize) -> Result<u16, Refusal>
-        requires { MarkFirst self.old.words.now (closing_token closing) × (from ≤ begin) × (begin ≤ length (roots self.old)) }
-        ensures { (depth : ℕ) → depth ≤ 32 → MatchResult result (Closed closing depth (take from (roots self.old)) (level_at from begin (roots self.old)) (reader self.old) (reader self.new)) (Unclosed closing depth (level_at from begin (roots self.old)) (reader self.old) (reader self.new)) }
+    fn close(&mut self, opened: Opened) -> Result<u16, Refusal>
+        requires { MarkFirst self.old.words.now (closing_token opened.closing) × (opened.begin ≤ length (roots self.old)) }
+        ensures { (depth : ℕ) → depth ≤ 32 → MatchResult result (Closed opened.closing depth (take opened.from (roots self.old)) (level_at opened (roots self.old)) (reader self.old) (reader self.new)) (Unclosed opened.closing depth (level_at opened (roots self.old)) (reader self.old) (reader self.new)) }
     {
-        let node = self.finish(closing, from, begin)?;
+        let node = self.finish(opened)?;
         self.words.advance();
         Ok(node)
     }
 
     // At a mark that ends a sequence and is no bar: it ends the branches, or cannot stand here.
-    fn end(
-        &mut self,
-        closing: Option<Bracket>,
-        mark: Word,
-        from: usize,
-        begin: usize,
-    ) -> Result<u16, Refusal>
-        requires { WordTold self.old.words.now mark × Ends mark.piece × (mark.piece ≢ Bar) × (from ≤ begin) × (begin ≤ length (roots self.old)) }
-        ensures { (depth : ℕ) → depth ≤ 32 → MatchResult result (Closed closing depth (take from (roots self.old)) (level_at from begin (roots self.old)) (reader self.old) (reader self.new)) (Unclosed closing depth (level_at from begin (roots self.old)) (reader self.old) (reader self.new)) }
+    fn end(&mut self, opened: Opened, mark: Word) -> Result<u16, Refusal>
+        requires { WordTold self.old.words.now mark × Ends mark.piece × (mark.piece ≢ Bar) × (opened.begin ≤ length (roots self.old)) }
+        ensures { (depth : ℕ) → depth ≤ 32 → MatchResult result (Closed opened.closing depth (take opened.from (roots self.old)) (level_at opened (roots self.old)) (reader self.old) (reader self.new)) (Unclosed opened.closing depth (level_at opened (roots self.old)) (reader self.old) (reader self.new)) }
     {
-        if mark.piece != closing_mark(closing) {
+        if mark.piece != closing_mark(opened.closing) {
             return Err(Refusal::Misplaced(mark.place));
         }
-        self.close(closing, from, begin)
+        self.close(opened)
     }
 
     // One part of a sequence, or the mark that ends it, which stays.
@@ -111,7 +106,12 @@ impl Parser<'_, '_> {
             let begin = self.waiting.len();
             let mark = self.sequence(depth)?;
             if mark.piece != Piece::Bar {
-                return self.end(closing, mark, from, begin);
+                let opened = Opened {
+                    closing,
+                    from,
+                    begin,
+                };
+                return self.end(opened, mark);
             }
             self.next_branch(begin)?;
         }

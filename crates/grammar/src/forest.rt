@@ -4,6 +4,7 @@ ghost use Rattle.std.specs.Prelude.{◌≡◌, ◌<◌, ◌≤◌, length, Match
 ghost use Rattle.grammar.specs.Forest.{roots_of, nodes_of, Reduced, Unreduced, BranchEnded, BranchFull, Bracketed, Unbracketed, Finished, Unfinished};
 ghost use Rattle.grammar.specs.Parts.{reader, forest, with_forest};
 
+use crate::opened::Opened;
 use crate::parser::Parser;
 use crate::piece::Bracket;
 use tables::Full;
@@ -46,20 +47,14 @@ impl Parser<'_, '_> {
         }
     }
 
-    // The roots from an index on are branches, those from another on the items of the last, and a
-    // mark ends them all.
-    pub(crate) fn finish(
-        &mut self,
-        closing: Option<Bracket>,
-        from: usize,
-        begin: usize,
-    ) -> Result<u16, Full>
-        requires { (from ≤ begin) × (begin ≤ length (roots_of (forest self.old))) }
-        ensures told { MatchResult result (Finished closing from begin (forest self.old) (forest self.new)) (Unfinished closing from begin (forest self.old) (forest self.new)) }
+    // At the mark that ends branches: their one node.
+    pub(crate) fn finish(&mut self, opened: Opened) -> Result<u16, Full>
+        requires { opened.begin ≤ length (roots_of (forest self.old)) }
+        ensures told { MatchResult result (Finished opened (forest self.old) (forest self.new)) (Unfinished opened (forest self.old) (forest self.new)) }
         ensures beside { reader self.new ≡ with_forest (reader self.old) (forest self.new) }
     {
-        self.end_branch(begin)?;
-        let inside = self.reduce(Class::Alternative, from)?;
-        self.bracketed(closing, inside)
+        self.end_branch(opened.begin)?;
+        let inside = self.reduce(Class::Alternative, opened.from)?;
+        self.bracketed(opened.closing, inside)
     }
 }

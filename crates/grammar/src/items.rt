@@ -14,7 +14,7 @@ use tree::{Class, NONE};
 
 // What an item was read as: its node, or none, at a mark that ends the sequence. Named by what
 // was read; `ControlFlow` would only say what the caller does then.
-#[derive(Clone, Copy)]
+#[derive(Clone, Copy, Debug)]
 pub(crate) enum Item {
     Node(u16),
     Mark(Word),

@@ -6,6 +6,7 @@ mod forest;
 mod items;
 mod judging;
 mod marks;
+mod opened;
 mod parser;
 mod piece;
 mod refusal;

@@ -2,7 +2,7 @@
 ghost use Rattle.grammar.specs.Pieces.{Pieced};
 
 // The three pairs of brackets.
-#[derive(Clone, Copy, PartialEq, Eq)]
+#[derive(Clone, Copy, Debug, PartialEq, Eq)]
 pub enum Bracket {
     Round,
     Square,
@@ -10,7 +10,7 @@ pub enum Bracket {
 }
 
 // A token of the notation: a word is a class word or a name, and a string a quoted spelling.
-#[derive(Clone, Copy, PartialEq, Eq)]
+#[derive(Clone, Copy, Debug, PartialEq, Eq)]
 pub enum Piece {
     Name,
     ClassWord,

@@ -11,7 +11,7 @@ use tokens::{Skipping, TextSource, TokenSource};
 use tree::NONE;
 
 // A token: what it is in the notation, and where the text has it.
-#[derive(Clone, Copy)]
+#[derive(Clone, Copy, Debug)]
 pub(crate) struct Word {
     pub piece: Piece,
     pub place: usize,

@@ -6,10 +6,10 @@ use Rattle.grammar.proofs.parser.Parser.end.Goals as goal
 
 pub returns-then-ne : goal.returns-then-ne
 returns-then-ne c = λ depth d.
-    let other : c.args.mark.piece ≡ closing_piece c.args.closing → ⊥ = search rules in
-    unclosed_mark (reader c.args.self.now) (level_at c.args.from c.args.begin (roots c.args.self.now)) c.args.closing c.args.mark c.requires.0 c.requires.1 c.requires.2 other depth d
+    let other : c.args.mark.piece ≡ closing_piece c.args.opened.closing → ⊥ = search rules in
+    unclosed_mark (reader c.args.self.now) (level_at c.args.opened (roots c.args.self.now)) c.args.opened.closing c.args.mark c.requires.0 c.requires.1 c.requires.2 other depth d
 
 pub close-requires : goal.close-requires
 close-requires c =
-    let same : c.args.mark.piece ≡ closing_piece c.args.closing = search rules in
-    (closing_first c.args.self.now.words.now c.args.closing c.args.mark c.requires.0 same, c.requires.3, c.requires.4)
+    let same : c.args.mark.piece ≡ closing_piece c.args.opened.closing = search rules in
+    (closing_first c.args.self.now.words.now c.args.opened.closing c.args.mark c.requires.0 same, c.requires.3)
