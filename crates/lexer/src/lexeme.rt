@@ -49,11 +49,8 @@ fn length_of_string(inside: &[u8]) -> Option<usize>
     ensures { result ≡ string_length inside.now }
 {
     let n = run_length(inside, Run::Quoted);
-    if n < inside.len() && inside[n] == b'"' {
-        Some(n + 2)
-    } else {
-        None
-    }
+    let end = *inside.get(n)?;
+    (end == b'"').then_some(n + 2)
 }
 
 fn lex_string(inside: &[u8], vocabulary: &Vocabulary<'_>) -> Result<Lexeme, FaultCode>

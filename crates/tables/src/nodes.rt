@@ -41,9 +41,8 @@ impl Nodes<'_> {
         ensures kept { RestKept self.old self.new }
         ensures loan { self.new.table.ghost_name ≡ self.old.table.ghost_name }
     {
-        // Pairs by index: windows would need an arm that cannot happen.
-        for i in (1..row.len()).rev() {
-            self.join_nodes(row[i - 1], row[i]);
+        for pair in row.windows(2).rev() {
+            self.join_nodes(pair[0], pair[1]);
         }
     }
 

@@ -14,5 +14,5 @@ pub use lexer::{Sought, Spelling, Vocabulary};
 pub use list::ListSource;
 pub use skipping::Skipping;
 pub use source::{TokenSource, WithText};
-pub use text::{TextSource, check_length};
+pub use text::{LIMIT, TextSource, check_length};
 pub use token::{Ending, Fault, FaultCode, Next, NothingLeft, Numbered, Token, TooLong};

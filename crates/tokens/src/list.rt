@@ -3,6 +3,7 @@ ghost use Rattle.std.specs.Prelude.{◌≡◌, ◌≤◌, length, drop};
 ghost use Rattle.tokens.specs.Listed.{is_kind, listed_kinds};
 
 use crate::source::{TokenSource, first};
+use lexer::COMMENT;
 use token::{Fault, FaultCode, Next, NothingLeft, Token};
 
 // A table of kinds, read from a place on. A token's place is its index and its length is 1.
@@ -24,10 +25,11 @@ impl<'a> ListSource<'a> {
     }
 }
 
+// Whether a number is a kind; comments have the last one.
 fn fits(kind: u8) -> bool
     ensures { result ≡ is_kind kind }
 {
-    (1..=122).contains(&kind)
+    (1..=COMMENT).contains(&kind)
 }
 
 impl TokenSource for ListSource<'_> {

@@ -6,11 +6,11 @@ ghost use Rattle.scanning.specs.Scan.{scan_from};
 ghost use Rattle.lexer.specs.Vocabulary.{lexicon};
 
 use crate::source::{TokenSource, WithText, first};
-use lexer::{Lexeme, Vocabulary, lex, part};
+use lexer::{Vocabulary, lex, part};
 use token::{Fault, Next, NothingLeft, Token, TooLong};
 
 // How long a text may be.
-const LIMIT: usize = 32768;
+pub const LIMIT: usize = 32768;
 
 // Whether a text is short enough to be read.
 pub fn check_length(text: &[u8]) -> Result<(), TooLong>
@@ -50,22 +50,19 @@ fn lex_at(text: &[u8], place: usize, vocabulary: &Vocabulary<'_>) -> Ahead
             place,
         };
     }
-    let Lexeme { kind, length } = match lex(&text[place..], vocabulary) {
-        Ok(lexeme) => lexeme,
-        Err(code) => {
-            return Ahead {
-                next: Err(Fault { code, place }),
+    match lex(&text[place..], vocabulary) {
+        Ok(lexeme) => Ahead {
+            next: Ok(Next::Token(Token {
+                kind: lexeme.kind,
                 place,
-            };
-        }
-    };
-    Ahead {
-        next: Ok(Next::Token(Token {
-            kind,
+                length: lexeme.length,
+            })),
+            place: place + lexeme.length,
+        },
+        Err(code) => Ahead {
+            next: Err(Fault { code, place }),
             place,
-            length,
-        })),
-        place: place + length,
+        },
     }
 }
 

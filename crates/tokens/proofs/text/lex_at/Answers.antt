@@ -8,7 +8,7 @@ overflow_add-result c =
     let step = scan_token (lexicon c.args.vocabulary.now) c.args.text.now c.args.place (omega arith) c.in-Ok.lexeme c.in-Ok.ensures in
     omega (arith, step.within)
 
-pub returns : goal.returns
-returns c =
+pub returns-in-Ok : goal.returns-in-Ok
+returns-in-Ok c =
     let step = scan_token (lexicon c.args.vocabulary.now) c.args.text.now c.args.place (omega arith) c.in-Ok.lexeme c.in-Ok.ensures in
     record { fits = step.fits; tokens = step.tokens _ refl; ending = step.ending }
