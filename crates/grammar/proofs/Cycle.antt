@@ -36,10 +36,6 @@ take_front n xs ys e = take-append-le n xs ys (omega arith) ∙ take_all n xs (o
 drop_front : (n : ℕ) (xs ys : List ℕ) → n ≡ length xs → drop n (xs ++ ys) ≡ ys
 drop_front n xs ys e = drop-append-le n xs ys (omega arith) ∙ ap (λ l. l ++ ys) (drop_all n xs (omega arith))
 
-pub depth_fits : (c : Option BracketOf) (depth : ℕ) → FitsDepth c depth → depth ≤ 32
-depth_fits None depth e = omega arith
-depth_fits (Some b) depth h = h
-
 -- what is refused within branches
 pub refused_within : (c : Option BracketOf) (depth : ℕ) (l : Level) (r : Reader) (e : Refusal) → FitsDepth c depth → ((bs : List Bracket) → length bs ≡ depth → (rule : ℕ) (outer : Levels bs) → RefusedAs e (standing r bs rule l outer)) → EndedRefused c depth r l e
 refused_within None depth l r e d h = λ rule. h [] (sym d) rule tt
@@ -92,12 +88,12 @@ module _ (depth : ℕ) (r m n : Reader) (b : BranchesOn depth r m) (x : Word) (q
     goes = λ bs deep rule outer. to_items bs deep rule outer ∙ h.goes bs (omega arith) rule b.ended outer;
   }
 
-  pub branch_unclosed : (c : Option BracketOf) → FitsDepth c depth → (after : Reader) (e : Refusal) → BranchRefused begin n after e → Unclosed c depth no_level r after e
-  branch_unclosed c d after e h = record {
+  pub branch_unclosed : (c : Option BracketOf) → FitsDepth c depth → depth ≤ 32 → (after : Reader) (e : Refusal) → BranchRefused begin n after e → Unclosed c depth no_level r after e
+  branch_unclosed c d few after e h = record {
     same = h.same ∙ q.on.same ∙ b.same;
     told =
         refused_within c depth no_level r e d
-        (λ bs deep rule outer. refused_so e (standing r bs rule no_level outer) (standing n bs rule (record { ended = b.ended; items = drop begin (roots_of n.forest) }) outer) (to_items bs deep rule outer) (h.told bs (omega (arith, depth_fits c depth d)) rule b.ended outer));
+        (λ bs deep rule outer. refused_so e (standing r bs rule no_level outer) (standing n bs rule (record { ended = b.ended; items = drop begin (roots_of n.forest) }) outer) (to_items bs deep rule outer) (h.told bs (omega arith) rule b.ended outer));
   }
 
   -- the mark that ends the branches
@@ -111,11 +107,11 @@ module _ (depth : ℕ) (r m n : Reader) (b : BranchesOn depth r m) (x : Word) (q
       λ bs deep rule around outer.
       refused_so e (standing r (bracket b ∷ bs) rule no_level (around, outer)) (standing n (bracket b ∷ bs) rule (level_at (at_mark (Some b)) (roots_of n.forest)) (around, outer)) (to_level (bracket b ∷ bs) deep rule (around, outer)) (g bs deep rule around outer)
 
-  pub all_closed : (c : Option BracketOf) → FitsDepth c depth → (after : Reader) (res : Result ℕ Refusal)
+  pub all_closed : (c : Option BracketOf) → FitsDepth c depth → depth ≤ 32 → (after : Reader) (res : Result ℕ Refusal)
       → ((k : ℕ) → k ≤ 32 → MatchResult res (Closed c k (take from (roots_of n.forest)) (level_at (at_mark c) (roots_of n.forest)) n after) (Unclosed c k (level_at (at_mark c) (roots_of n.forest)) n after))
       → MatchResult res (Closed c depth (roots_of r.forest) no_level r after) (Unclosed c depth no_level r after)
-  all_closed c d after (Ok k) h =
-      let g = h depth (depth_fits c depth d) in
+  all_closed c d few after (Ok k) h =
+      let g = h depth few in
       record {
         same = g.same ∙ q.on.same ∙ b.same;
         roots_left = g.roots_left ∙ left_is;
@@ -124,6 +120,6 @@ module _ (depth : ℕ) (r m n : Reader) (b : BranchesOn depth r m) (x : Word) (q
         shorter = omega (arith, g.shorter, q.on.no_longer, b.no_longer);
         goes = goes_to_end c d after k g.goes;
       }
-  all_closed c d after (Err e) h =
-      let g = h depth (depth_fits c depth d) in
+  all_closed c d few after (Err e) h =
+      let g = h depth few in
       record { same = g.same ∙ q.on.same ∙ b.same; told = refused_to_end c d e g.told }

@@ -158,8 +158,8 @@ module _ (m : Reader) (i n : ℕ) (small : n < 1024) (names : Filling Name 64) (
   rooted_same : fixed (record { words = m.words; names = names; kinds = m.kinds; forest = m.forest; lenders = m.lenders }) ≡ fixed m
   rooted_same = fixed_same m rooted_reader refl refl (kept_place m.names names kept loan) refl refl refl
 
-  pub rule_rooted : (r a b : Reader) → HeadRead r a i → ArrowRead a b → Closed None 0 (roots_of b.forest) no_level b m n → RuleRead r (record { words = m.words; names = names; kinds = m.kinds; forest = m.forest; lenders = m.lenders })
-  rule_rooted r a b head mid closed =
+  pub rule_rooted : (r a b : Reader) (depth : ℕ) → HeadRead r a i → ArrowRead a b → Closed None depth (roots_of b.forest) no_level b m n → RuleRead r (record { words = m.words; names = names; kinds = m.kinds; forest = m.forest; lenders = m.lenders })
+  rule_rooted r a b depth head mid closed =
       let same = rooted_same in
       record {
         same = same ∙ closed.same ∙ mid.same ∙ head.same;

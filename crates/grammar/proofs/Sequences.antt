@@ -1,5 +1,5 @@
 -- The items of a sequence, one after another, and groups among them.
-use Rattle.std.proofs.Common.{◌≡◌, ℕ, ◌+◌, ◌<◌, List, [], ◌∷◌, ◌++◌, length, Some, sym, refl, ap, ◌∙◌, arith}
+use Rattle.std.proofs.Common.{◌≡◌, ℕ, ◌+◌, ◌<◌, ◌≤◌, List, [], ◌∷◌, ◌++◌, length, Some, sym, refl, ap, ◌∙◌, arith}
 use Rattle.std.proofs.lemmas.List.{append-nil, append_assoc}
 use Rattle.grammar.proofs.Closing.{grown_same, grown_tables}
 use Rattle.grammar.proofs.Cycle.{refused_so}
@@ -78,7 +78,7 @@ module _ (depth : ℕ) (r : Reader) (x : Word) (first : WordTold r.words x) wher
           fronted bs rule outer r (opening (bracket b) spot) rest l (first_is (piece_is.Opening b) e) ∙ opening_too_deep (fixed r).limits rest (fixed r).ending bs (record { tables = tables_of r; rule = rule; level = l; outer = outer }) (bracket b) spot (deep ∙ full);
     }
 
-    module _ (room : depth < 32) (after : Words) (a : Advanced r.words after) where
+    module _ (inside : ℕ) (deeper : inside ≡ depth + 1) (few : inside ≤ 32) (after : Words) (a : Advanced r.words after) where
       abbrev within : Reader
       within = record { words = after; names = r.names; kinds = r.kinds; forest = r.forest; lenders = r.lenders }
 
@@ -92,7 +92,7 @@ module _ (depth : ℕ) (r : Reader) (x : Word) (first : WordTold r.words x) wher
           ∙ opening_on (fixed r).limits rest (fixed r).ending bs (record { tables = tables_of r; rule = rule; level = l; outer = outer }) (bracket b) spot (omega arith) (fits r)
           ∙ moved (bracket b ∷ bs) rule (l, outer) r within (tables_of r) rest no_level no_level (grown_same r r.forest refl after a) (grown_tables r r.forest refl after a (nodes_of r.forest) refl) (sym a.rest) refl
 
-      pub group_read : (n : Reader) (k : ℕ) → Closed (Some b) (depth + 1) (roots_of r.forest) no_level (record { words = after; names = r.names; kinds = r.kinds; forest = r.forest; lenders = r.lenders }) n k → NodeRead depth r n k
+      pub group_read : (n : Reader) (k : ℕ) → Closed (Some b) inside (roots_of r.forest) no_level (record { words = after; names = r.names; kinds = r.kinds; forest = r.forest; lenders = r.lenders }) n k → NodeRead depth r n k
       group_read n k h = record {
         same = h.same ∙ grown_same r r.forest refl after a;
         same_roots = h.roots_left;
@@ -102,7 +102,7 @@ module _ (depth : ℕ) (r : Reader) (x : Word) (first : WordTold r.words x) wher
         goes = λ bs deep rule l outer. to_within bs deep rule l outer ∙ h.goes bs (omega arith) rule l outer;
       }
 
-      pub group_unread : (n : Reader) (x : Refusal) → Unclosed (Some b) (depth + 1) no_level (record { words = after; names = r.names; kinds = r.kinds; forest = r.forest; lenders = r.lenders }) n x → ItemRefused depth r n x
+      pub group_unread : (n : Reader) (x : Refusal) → Unclosed (Some b) inside no_level (record { words = after; names = r.names; kinds = r.kinds; forest = r.forest; lenders = r.lenders }) n x → ItemRefused depth r n x
       group_unread n x h = record {
         same = h.same ∙ grown_same r r.forest refl after a;
         told = λ bs deep rule l outer. refused_so x (standing r bs rule l outer) (standing within (bracket b ∷ bs) rule no_level (l, outer)) (to_within bs deep rule l outer) (h.told bs (omega arith) rule l outer);

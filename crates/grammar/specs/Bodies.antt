@@ -51,7 +51,7 @@ pub record BranchRefused (begin : ℕ) (before after : Reader) (e : Refusal) : T
 -- a rule's branches stand in no bracket
 abbrev pub FitsDepth : Option BracketOf → ℕ → Type 0
 FitsDepth None depth = depth ≡ 0
-FitsDepth (Some b) depth = depth ≤ 32
+FitsDepth (Some b) depth = Unit {0}
 
 -- from a level within branches to what their mark leads to
 abbrev pub EndedGoes : Option BracketOf → ℕ → Reader → Reader → Level → ℕ → Type 0

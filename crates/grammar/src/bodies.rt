@@ -8,15 +8,13 @@ ghost use Rattle.grammar.specs.declared.piece.Piece.TheVariants.{Bar};
 ghost use Rattle.grammar.specs.Reader.{ItemTold, ItemRefused, Ends};
 ghost use Rattle.grammar.specs.Bodies.{closing_piece, closing_token, level_at, MarkFirst, BranchRead, BranchRefused, FitsDepth, Closed, Unclosed, SequenceRead};
 
+use crate::depth::Depth;
 use crate::items::Item;
 use crate::opened::Opened;
 use crate::parser::Parser;
 use crate::piece::{Bracket, Piece};
 use crate::refusal::Refusal;
 use crate::words::Word;
-
-// How many brackets may be open.
-const DEPTH: u8 = 32;
 
 // The mark that ends branches: of a rule, or within a bracket.
 fn closing_mark(closing: Option<Bracket>) -> Piece
@@ -59,9 +57,8 @@ impl Parser<'_, '_> {
 
     // One part of a sequence, or the mark that ends it, which stays.
     #[cycle(branches_item_sequence)]
-    fn item(&mut self, depth: u8) -> Result<Item, Refusal>
-        requires { depth ≤ 32 }
-        ensures { MatchResult result (ItemTold depth (reader self.old) (reader self.new)) (ItemRefused depth (reader self.old) (reader self.new)) }
+    fn item(&mut self, depth: Depth) -> Result<Item, Refusal>
+        ensures { MatchResult result (ItemTold depth.brackets (reader self.old) (reader self.new)) (ItemRefused depth.brackets (reader self.old) (reader self.new)) }
     {
         let word = self.words.word()?;
         match word.piece {
@@ -70,11 +67,9 @@ impl Parser<'_, '_> {
             Piece::Spelling => self.spelling_item(word),
             Piece::Arrow => Err(Refusal::Misplaced(word.place)),
             Piece::Opening(bracket) => {
-                if depth == DEPTH {
-                    return Err(Refusal::TooDeep(word.place));
-                }
+                let inside = depth.deeper().ok_or(Refusal::TooDeep(word.place))?;
                 self.words.advance();
-                let node = self.branches(Some(bracket), depth + 1)?;
+                let node = self.branches(Some(bracket), inside)?;
                 Ok(Item::Node(node))
             }
             Piece::Bar | Piece::Semicolon | Piece::Closing(_) => Ok(Item::Mark(word)),
@@ -83,9 +78,8 @@ impl Parser<'_, '_> {
 
     // Items up to a mark that ends the sequence, which stays.
     #[cycle(branches_item_sequence)]
-    fn sequence(&mut self, depth: u8) -> Result<Word, Refusal>
-        requires { depth ≤ 32 }
-        ensures { MatchResult result (SequenceRead depth (reader self.old) (reader self.new)) (ItemRefused depth (reader self.old) (reader self.new)) }
+    fn sequence(&mut self, depth: Depth) -> Result<Word, Refusal>
+        ensures { MatchResult result (SequenceRead depth.brackets (reader self.old) (reader self.new)) (ItemRefused depth.brackets (reader self.old) (reader self.new)) }
     {
         loop {
             match self.item(depth)? {
@@ -97,9 +91,13 @@ impl Parser<'_, '_> {
 
     // Branches, and the mark that ends them.
     #[cycle(branches_item_sequence)]
-    pub(crate) fn branches(&mut self, closing: Option<Bracket>, depth: u8) -> Result<u16, Refusal>
-        requires { FitsDepth closing depth }
-        ensures { MatchResult result (Closed closing depth (roots self.old) no_level (reader self.old) (reader self.new)) (Unclosed closing depth no_level (reader self.old) (reader self.new)) }
+    pub(crate) fn branches(
+        &mut self,
+        closing: Option<Bracket>,
+        depth: Depth,
+    ) -> Result<u16, Refusal>
+        requires { FitsDepth closing depth.brackets }
+        ensures { MatchResult result (Closed closing depth.brackets (roots self.old) no_level (reader self.old) (reader self.new)) (Unclosed closing depth.brackets no_level (reader self.old) (reader self.new)) }
     {
         let from = self.waiting.len();
         loop {

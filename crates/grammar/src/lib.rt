@@ -2,6 +2,7 @@
 #![tactic(auto)]
 
 mod bodies;
+mod depth;
 mod forest;
 mod items;
 mod judging;

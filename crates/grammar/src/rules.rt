@@ -5,6 +5,7 @@ ghost use Rattle.grammar.specs.Words.{WordTold};
 ghost use Rattle.grammar.specs.Rules.{HeadRead, HeadRefused, ArrowRead, ArrowRefused, RuleRead, AllRead, NamesRuled, NamesLack};
 ghost use Rattle.tables.specs.Filling.{entries};
 
+use crate::depth::Depth;
 use crate::parser::Parser;
 use crate::piece::Piece;
 use crate::refusal::Refusal;
@@ -49,7 +50,7 @@ impl Parser<'_, '_> {
     {
         let name = self.head(word)?;
         self.arrow()?;
-        let root = self.branches(None, 0)?;
+        let root = self.branches(None, Depth::none())?;
         self.names.set_root(name, root);
         Ok(())
     }
