@@ -2,8 +2,8 @@
 use Rattle.std.proofs.Common.{◌≡◌, ℕ, ◌<◌, ◌≤◌, List, [], ◌∷◌, ◌++◌, map, length, take, drop, Some, None, Option, sym, refl, ap, ◌∙◌, arith, length-append}
 use Rattle.grammar.proofs.Leaves.{rest_shorter}
 use Rattle.grammar.proofs.Moves.{fixed_same, fits, moved, fronted, tables_same}
-use Rattle.grammar.specs.Bodies.{closing_token, level_at, MarkFirst, BranchRead, BranchRefused, EndedGoes, EndedRefused, Closed, Unclosed}
-use Rattle.grammar.specs.Forest.{nodes_of, roots_of, place, over_group, over_branches, BranchEnded, BranchFull, Finished, Unfinished}
+use Rattle.grammar.specs.Bodies.{closing_token, level_at, MarkFirst, BranchRead, EndedGoes, EndedRefused, Closed, Unclosed}
+use Rattle.grammar.specs.Forest.{nodes_of, roots_of, place, over_group, over_branches, BranchEnded, Finished, Unfinished}
 use Rattle.grammar.specs.Reader.{tokens_of, tables_of, fixed, standing_ready}
 use Rattle.grammar.specs.Words.{bracket, rest_of, Advanced}
 use Rattle.grammar.specs.Trees.{Forest}
@@ -18,7 +18,7 @@ use Rattle.notation.specs.Reading.{nodes_full, refused, run}
 use Rattle.notation.specs.Standing.{ready}
 use Rattle.notation.specs.Tables.{Tables}
 use Rattle.notation.specs.Tokens.{Token, bar, semi, closing}
-use Rattle.notation.proofs.Steps.{bar_on, bar_nodes_full, closing_on, closing_nodes_full, semi_on, semi_nodes_full}
+use Rattle.notation.proofs.Steps.{bar_on, closing_on, closing_nodes_full, semi_on, semi_nodes_full}
 use Rattle.tables.specs.Meant.{name_meant, kind_meant}
 use Rattle.tables.specs.Nodes.{over_row}
 use Rattle.tables.specs.Nodes as tables
@@ -91,17 +91,6 @@ module _ (r : Reader) (first : MarkFirst r.words bar) (begin : ℕ) where
 
   abbrev row : tables.Made
   row = over_row class_is.Chain (drop begin (roots_of r.forest)) (nodes_of r.forest)
-
-  pub branch_full : (forest : Forest) (e : Full) → BranchFull begin r.forest forest e → BranchRefused begin r (record { words = r.words; names = r.names; kinds = r.kinds; forest = forest; lenders = r.lenders }) (NodesFull e.limit)
-  branch_full forest e h = record {
-    same = half_same r forest h.place;
-    told =
-        λ bs deep rule ended outer.
-        fronted bs rule outer r (bar first.spot) (rest_of (tokens_of r)) (record { ended = ended; items = items }) first.first
-        ∙ bar_nodes_full (fixed r).limits (rest_of (tokens_of r)) (fixed r).ending bs (record { tables = tables_of r; rule = rule; level = record { ended = ended; items = items }; outer = outer }) first.spot deep (fits r)
-        (omega (arith, h.full, ap (λ M. length M.tables.nodes) (sequence_row items (tables_of r))))
-        ∙ ap (λ n. refused (nodes_full n)) (sym h.told);
-  }
 
   pub branch_read : (forest : Forest) (h : BranchEnded begin r.forest forest) (after : Words) (a : Advanced r.words after) → BranchRead begin r (record { words = after; names = r.names; kinds = r.kinds; forest = forest; lenders = r.lenders })
   branch_read forest h after a = record {

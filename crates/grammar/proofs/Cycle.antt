@@ -1,6 +1,6 @@
 -- Branches, sequences and items, as they are read one after another.
-use Rattle.std.proofs.Common.{◌≡◌, ℕ, ◌≤◌, List, [], ◌∷◌, ◌++◌, length, take, drop, Some, None, Ok, Err, Option, Result, sym, refl, ap, ◌∙◌, subst, arith, length-append, MatchResult}
-use Rattle.std.proofs.lemmas.List.{append-nil, append_assoc, take_all, take-append-le, drop_all, drop-append-le}
+use Rattle.std.proofs.Common.{◌≡◌, ℕ, ◌≤◌, List, [], ◌∷◌, ◌++◌, length, take, drop, Some, None, Ok, Err, Option, Result, sym, ap, ◌∙◌, subst, arith, length-append, MatchResult}
+use Rattle.std.proofs.lemmas.List.{append_assoc, take_all, take-append-le, drop_all, drop-append-le}
 use Rattle.grammar.specs.Bodies.{MarkFirst, level_at, BranchRead, BranchRefused, FitsDepth, EndedGoes, EndedRefused, Closed, Unclosed, SequenceRead}
 use Rattle.grammar.specs.Forest.{roots_of}
 use Rattle.grammar.specs.Reader.{text_of, tokens_of, standing, fixed}
@@ -23,9 +23,6 @@ pub record BranchesOn (depth : ℕ) (before after : Reader) : Type 0 where
   pub more : roots_of after.forest ≡ roots_of before.forest ++ ended
   pub no_longer : length (tokens_of after) ≤ length (tokens_of before)
   pub goes : (bs : List Bracket) → length bs ≡ depth → (rule : ℕ) (outer : Levels bs) → standing before bs rule no_level outer ≡ standing after bs rule (record { ended = ended; items = [] }) outer
-
-pub no_branch_yet : (depth : ℕ) (r : Reader) → BranchesOn depth r r
-no_branch_yet depth r = record { same = refl; ended = []; more = sym (append-nil (roots_of r.forest)); no_longer = omega arith; goes = λ bs deep rule outer. refl }
 
 pub refused_so : (e : Refusal) (o u : Outcome) → o ≡ u → RefusedAs e u → RefusedAs e o
 refused_so e o u p h = subst (RefusedAs e) (sym p) h

@@ -2,8 +2,8 @@
 use Rattle.std.proofs.Common.{◌≡◌, ℕ, suc, ◌+◌, ◌<◌, ◌≤◌, false, not, List, [], ◌∷◌, map, length, sym, refl, ap, ◌∙◌, arith, length-append}
 use Rattle.grammar.proofs.Counted.{name_number, names_are, names_fit, names_over, kind_number, kinds_are, kinds_fit, kinds_over}
 use Rattle.grammar.proofs.Moves.{fixed_same, fits, moved, fronted, tables_same}
-use Rattle.grammar.proofs.Rooting.{kept_place}
-use Rattle.grammar.specs.Forest.{nodes_of, roots_of, MadeOne, MadeNone}
+use Rattle.grammar.proofs.Rooting.{kept_place, MadeOne, MadeNone}
+use Rattle.grammar.specs.Forest.{nodes_of, roots_of}
 use Rattle.grammar.specs.Reader.{text_of, tokens_of, tables_of, fixed, NamedFirst, SpellingFirst, TerminalFirst, NodeRead, ItemRefused}
 use Rattle.grammar.specs.Words.{word_spot, piece_token, rest_of, Advanced}
 use Rattle.grammar.specs.Trees.{Forest}

@@ -47,25 +47,6 @@ pub record Healthy (f : Forest) : Type 0 where
 abbrev pub SamePlace : Forest → Forest → Type 0
 SamePlace before after = place after.nodes ≡ place before.nodes
 
-pub record MadeOne (c : Class) (v f : ℕ) (before after : Forest) (n : ℕ) : Type 0 where
-  pub number : n ≡ length (nodes_of before)
-  pub nodes : nodes_of after ≡ add c v f (nodes_of before)
-  pub same_roots : roots_of after ≡ roots_of before
-  pub room : length (nodes_of before) < limit_of before
-  pub healthy : Healthy after
-  pub place : SamePlace before after
-
-pub record MadeNone (before after : Forest) (e : Full) : Type 0 where
-  pub full : limit_of before ≤ length (nodes_of before)
-  pub told : e.limit ≡ limit_of before
-  pub place : SamePlace before after
-
-pub record Pushed (n : ℕ) (before after : Forest) : Type 0 where
-  pub nodes : nodes_of after ≡ nodes_of before
-  pub more : roots_of after ≡ roots_of before ++ n ∷ []
-  pub healthy : Healthy after
-  pub place : SamePlace before after
-
 -- the roots from an index on have a parent, or are one root that stays so
 pub record Reduced (c : Class) (from : ℕ) (before after : Forest) (n : ℕ) : Type 0 where
   pub number : n ≡ (over_row c (drop from (roots_of before)) (nodes_of before)).at
@@ -74,7 +55,6 @@ pub record Reduced (c : Class) (from : ℕ) (before after : Forest) (n : ℕ) : 
   pub fits : length (nodes_of after) ≤ limit_of before
   pub own : length (roots_of after) < length (nodes_of after)
   pub small : n < 1024
-  pub healthy : Healthy after
   pub place : SamePlace before after
 
 pub record Unreduced (c : Class) (from : ℕ) (before after : Forest) (e : Full) : Type 0 where
@@ -99,7 +79,6 @@ pub record BranchEnded (begin : ℕ) (before after : Forest) : Type 0 where
   pub nodes : nodes_of after ≡ (over_row class_is.Chain (drop begin (roots_of before)) (nodes_of before)).nodes
   pub more : roots_of after ≡ take begin (roots_of before) ++ (over_row class_is.Chain (drop begin (roots_of before)) (nodes_of before)).at ∷ []
   pub fits : length (nodes_of after) ≤ limit_of before
-  pub healthy : Healthy after
   pub place : SamePlace before after
 
 pub record BranchFull (begin : ℕ) (before after : Forest) (e : Full) : Type 0 where
@@ -117,7 +96,6 @@ pub record Bracketed (c : Option Bracket) (inside : ℕ) (before after : Forest)
   pub fits : length (nodes_of after) ≤ limit_of before
   pub own : length (roots_of after) < length (nodes_of after)
   pub small : n < 1024
-  pub healthy : Healthy after
   pub place : SamePlace before after
 
 pub record Unbracketed (c : Option Bracket) (inside : ℕ) (before after : Forest) (e : Full) : Type 0 where
@@ -136,7 +114,6 @@ pub record Finished (o : Opened) (before after : Forest) (n : ℕ) : Type 0 wher
   pub fits : length (nodes_of after) ≤ limit_of before
   pub own : length (roots_of after) < length (nodes_of after)
   pub small : n < 1024
-  pub healthy : Healthy after
   pub place : SamePlace before after
 
 pub record Unfinished (o : Opened) (before after : Forest) (e : Full) : Type 0 where
