@@ -3,6 +3,7 @@ use Rattle.std.proofs.Common.{◌≡◌, ℕ, suc, ◌+◌, ◌<◌, ◌≤◌, 
 use Rattle.grammar.proofs.Counted.{name_number, names_are, names_fit, names_over, kind_number, kinds_are, kinds_fit, kinds_over}
 use Rattle.grammar.proofs.Moves.{fixed_same, fits, moved, fronted, tables_same}
 use Rattle.grammar.proofs.Rooting.{kept_place, MadeOne, MadeNone}
+use Rattle.grammar.specs.declared.depth.Depth.{Depth}
 use Rattle.grammar.specs.Forest.{nodes_of, roots_of}
 use Rattle.grammar.specs.Reader.{text_of, tokens_of, tables_of, fixed, NamedFirst, SpellingFirst, TerminalFirst, NodeRead, ItemRefused}
 use Rattle.grammar.specs.Words.{word_spot, piece_token, rest_of, Advanced}
@@ -47,8 +48,8 @@ module _ (r : Reader) (x : Word) where
     name_first = first.first ∙ ap (λ p. piece_token p (word_spot (text_of r) x) ∷ rest_of (tokens_of r)) first.is
 
     pub name_over : (names : Filling Name 64) (e : Full) → Refused (λ e. e.place) (λ e. e.length) (text_of r) (record { place = x.place; length = x.length; root = 1024 }) r.names names e
-        → (depth : ℕ) → depth ≤ 32 → ItemRefused depth r (record { words = r.words; names = names; kinds = r.kinds; forest = r.forest; lenders = r.lenders }) (NamesFull x.place)
-    name_over names e m depth d = record {
+        → (depth : Depth) → ItemRefused depth r (record { words = r.words; names = names; kinds = r.kinds; forest = r.forest; lenders = r.lenders }) (NamesFull x.place)
+    name_over names e m depth = record {
       same = ap (λ n. fixed (record { words = r.words; names = n; kinds = r.kinds; forest = r.forest; lenders = r.lenders })) m.same;
       told =
           λ bs deep rule l outer.
@@ -61,8 +62,8 @@ module _ (r : Reader) (x : Word) where
       few_names = names_fit (text_of r) r.names names name_entry refl i m
 
       pub name_nodes_over : (forest : Forest) (e : Full) → MadeNone r.forest forest e
-          → (depth : ℕ) → depth ≤ 32 → ItemRefused depth r (record { words = r.words; names = names; kinds = r.kinds; forest = forest; lenders = r.lenders }) (NodesFull e.limit)
-      name_nodes_over forest e h depth d = record {
+          → (depth : Depth) → ItemRefused depth r (record { words = r.words; names = names; kinds = r.kinds; forest = forest; lenders = r.lenders }) (NodesFull e.limit)
+      name_nodes_over forest e h depth = record {
         same = fixed_same r (record { words = r.words; names = names; kinds = r.kinds; forest = forest; lenders = r.lenders }) refl refl (kept_place r.names names m.kept loan) refl h.place refl;
         told =
             λ bs deep rule l outer.
@@ -85,8 +86,8 @@ module _ (r : Reader) (x : Word) where
             (ap (λ t. map (kind_meant t) (entries r.kinds)) (sym a.text_same))
             (ap (λ k. add class_is.Name k 1024 (nodes_of r.forest)) (sym (name_number (text_of r) r.names names name_entry refl i m)) ∙ sym h.nodes)
 
-        pub name_read : (few : length (roots_of r.forest) ≤ length (nodes_of r.forest)) (depth : ℕ) → depth ≤ 32 → NodeRead depth r (record { words = after; names = names; kinds = r.kinds; forest = forest; lenders = r.lenders }) n
-        name_read few depth d = record {
+        pub name_read : (few : length (roots_of r.forest) ≤ length (nodes_of r.forest)) (depth : Depth) → NodeRead depth r (record { words = after; names = names; kinds = r.kinds; forest = forest; lenders = r.lenders }) n
+        name_read few depth = record {
           same = same;
           same_roots = h.same_roots;
           own = omega (arith, ap length h.same_roots, ap length h.nodes, length-append (nodes_of r.forest) (record { class = class_is.Name; value = i; first = 1024; next = 1024 } ∷ []), few);
@@ -101,8 +102,8 @@ module _ (r : Reader) (x : Word) where
 
   module _ (first : TerminalFirst r.words x) where
     pub token_over : (kinds : Filling Spelling 120) (e : Full) → Refused (λ e. e.place) (λ e. e.length) (text_of r) (record { place = x.place; length = x.length }) r.kinds kinds e
-        → (depth : ℕ) → depth ≤ 32 → ItemRefused depth r (record { words = r.words; names = r.names; kinds = kinds; forest = r.forest; lenders = r.lenders }) (KindsFull x.place)
-    token_over kinds e m depth d = record {
+        → (depth : Depth) → ItemRefused depth r (record { words = r.words; names = r.names; kinds = kinds; forest = r.forest; lenders = r.lenders }) (KindsFull x.place)
+    token_over kinds e m depth = record {
       same = ap (λ n. fixed (record { words = r.words; names = r.names; kinds = n; forest = r.forest; lenders = r.lenders })) m.same;
       told =
           λ bs deep rule l outer.
@@ -115,8 +116,8 @@ module _ (r : Reader) (x : Word) where
       few_kinds = kinds_fit (text_of r) r.kinds kinds kind_entry i m
 
       pub token_nodes_over : (forest : Forest) (e : Full) → MadeNone r.forest forest e
-          → (depth : ℕ) → depth ≤ 32 → ItemRefused depth r (record { words = r.words; names = r.names; kinds = kinds; forest = forest; lenders = r.lenders }) (NodesFull e.limit)
-      token_nodes_over forest e h depth d = record {
+          → (depth : Depth) → ItemRefused depth r (record { words = r.words; names = r.names; kinds = kinds; forest = forest; lenders = r.lenders }) (NodesFull e.limit)
+      token_nodes_over forest e h depth = record {
         same = fixed_same r (record { words = r.words; names = r.names; kinds = kinds; forest = forest; lenders = r.lenders }) refl refl refl (kept_place r.kinds kinds m.kept loan) h.place refl;
         told =
             λ bs deep rule l outer.
@@ -139,8 +140,8 @@ module _ (r : Reader) (x : Word) where
             (sym (kinds_are (text_of r) r.kinds kinds kind_entry i m) ∙ ap (λ t. map (kind_meant t) (entries kinds)) (sym a.text_same))
             (ap (λ k. add class_is.Token k 1024 (nodes_of r.forest)) (sym (one_add_right i ∙ ap suc (kind_number (text_of r) r.kinds kinds kind_entry i m))) ∙ sym h.nodes)
 
-        pub token_read : (few : length (roots_of r.forest) ≤ length (nodes_of r.forest)) (depth : ℕ) → depth ≤ 32 → NodeRead depth r (record { words = after; names = r.names; kinds = kinds; forest = forest; lenders = r.lenders }) n
-        token_read few depth d = record {
+        pub token_read : (few : length (roots_of r.forest) ≤ length (nodes_of r.forest)) (depth : Depth) → NodeRead depth r (record { words = after; names = r.names; kinds = kinds; forest = forest; lenders = r.lenders }) n
+        token_read few depth = record {
           same = token_same;
           same_roots = h.same_roots;
           own = omega (arith, ap length h.same_roots, ap length h.nodes, length-append (nodes_of r.forest) (record { class = class_is.Token; value = i + 1; first = 1024; next = 1024 } ∷ []), few);
@@ -158,8 +159,8 @@ module _ (r : Reader) (x : Word) (first : SpellingFirst r.words x) (w : List ℕ
   spelling_token : tokens_of r ≡ terminal spelling (word_spot (text_of r) x) ∷ rest_of (tokens_of r)
   spelling_token = first.first ∙ ap (λ p. piece_token p (word_spot (text_of r) x) ∷ rest_of (tokens_of r)) first.is
 
-  pub misspelt : is_spelling w ≡ false → (depth : ℕ) → depth ≤ 32 → ItemRefused depth r r (Misspelt x.place)
-  misspelt bad depth d = record {
+  pub misspelt : is_spelling w ≡ false → (depth : Depth) → ItemRefused depth r r (Misspelt x.place)
+  misspelt bad depth = record {
     same = refl;
     told =
         λ bs deep rule l outer.

@@ -1,10 +1,11 @@
 -- The items of a sequence, one after another, and groups among them.
-use Rattle.std.proofs.Common.{◌≡◌, ℕ, ◌+◌, ◌<◌, ◌≤◌, List, [], ◌∷◌, length, Some, sym, refl, ap, ◌∙◌, arith}
+use Rattle.std.proofs.Common.{◌≡◌, ℕ, ◌+◌, ◌<◌, List, [], ◌∷◌, length, Some, sym, refl, ap, ◌∙◌, arith}
 use Rattle.std.proofs.lemmas.List.{append-nil}
 use Rattle.grammar.proofs.Closing.{grown_same, grown_tables}
 use Rattle.grammar.proofs.Cycle.{refused_so}
 use Rattle.grammar.proofs.Leaves.{rest_shorter}
 use Rattle.grammar.proofs.Moves.{fits, moved, fronted}
+use Rattle.grammar.specs.declared.depth.Depth.{Depth}
 use Rattle.grammar.specs.Bodies.{Closed, Unclosed, SequenceOn}
 use Rattle.grammar.specs.Forest.{nodes_of, roots_of}
 use Rattle.grammar.specs.Reader.{text_of, tokens_of, tables_of, fixed, standing, NodeRead, ItemRefused}
@@ -22,7 +23,7 @@ use Rattle.notation.specs.Reading.{Levels}
 use Rattle.notation.specs.Tokens.{Bracket, Spot, Token, opening, arrow}
 use Rattle.notation.proofs.Steps.{opening_on, opening_too_deep, arrow_misplaced}
 
-pub no_item_yet : (depth : ℕ) (r : Reader) → SequenceOn depth r r
+pub no_item_yet : (depth : Depth) (r : Reader) → SequenceOn depth r r
 no_item_yet depth r = record {
   same = refl;
   items = [];
@@ -32,7 +33,7 @@ no_item_yet depth r = record {
 }
 
 -- a token that is no item and no mark at its place
-module _ (depth : ℕ) (r : Reader) (x : Word) (first : WordTold r.words x) where
+module _ (depth : Depth) (r : Reader) (x : Word) (first : WordTold r.words x) where
   abbrev spot : Spot
   spot = word_spot (text_of r) x
 
@@ -51,7 +52,7 @@ module _ (depth : ℕ) (r : Reader) (x : Word) (first : WordTold r.words x) wher
   }
 
   module _ (b : BracketOf) (e : x.piece ≡ piece_is.Opening b) where
-    pub group_too_deep : depth ≡ 32 → ItemRefused depth r r (refusal_is.TooDeep x.place)
+    pub group_too_deep : depth.brackets ≡ 32 → ItemRefused depth r r (refusal_is.TooDeep x.place)
     group_too_deep full = record {
       same = refl;
       told =
@@ -59,7 +60,7 @@ module _ (depth : ℕ) (r : Reader) (x : Word) (first : WordTold r.words x) wher
           fronted bs rule outer r (opening (bracket b) spot) rest l (first_is (piece_is.Opening b) e) ∙ opening_too_deep (fixed r).limits rest (fixed r).ending bs (record { tables = tables_of r; rule = rule; level = l; outer = outer }) (bracket b) spot (deep ∙ full);
     }
 
-    module _ (inside : ℕ) (deeper : inside ≡ depth + 1) (few : inside ≤ 32) (after : Words) (a : Advanced r.words after) where
+    module _ (inside : Depth) (deeper : inside.brackets ≡ depth.brackets + 1) (after : Words) (a : Advanced r.words after) where
       abbrev within : Reader
       within = record { words = after; names = r.names; kinds = r.kinds; forest = r.forest; lenders = r.lenders }
 
@@ -67,7 +68,7 @@ module _ (depth : ℕ) (r : Reader) (x : Word) (first : WordTold r.words x) wher
       within_shorter = omega (arith, ap length a.rest, rest_shorter (tokens_of r) (opening (bracket b) spot) (first_is (piece_is.Opening b) e))
 
       -- past the opening bracket
-      to_within : (bs : List Bracket) → length bs ≡ depth → (rule : ℕ) (l : Level) (outer : Levels bs) → standing r bs rule l outer ≡ standing (record { words = after; names = r.names; kinds = r.kinds; forest = r.forest; lenders = r.lenders }) (bracket b ∷ bs) rule no_level (l, outer)
+      to_within : (bs : List Bracket) → length bs ≡ depth.brackets → (rule : ℕ) (l : Level) (outer : Levels bs) → standing r bs rule l outer ≡ standing (record { words = after; names = r.names; kinds = r.kinds; forest = r.forest; lenders = r.lenders }) (bracket b ∷ bs) rule no_level (l, outer)
       to_within bs deep rule l outer =
           fronted bs rule outer r (opening (bracket b) spot) rest l (first_is (piece_is.Opening b) e)
           ∙ opening_on (fixed r).limits rest (fixed r).ending bs (record { tables = tables_of r; rule = rule; level = l; outer = outer }) (bracket b) spot (omega arith) (fits r)

@@ -18,22 +18,22 @@ overflow_cast-name c =
     omega arith
 
 pub returns-in_err-node : goal.returns-in_err-node
-returns-in_err-node c = λ depth d.
+returns-in_err-node c = λ depth.
     let told = mapped_ok _ _ _ c.number.result c.in_ok-name.name c.in_ok-name.ensures.cases c.number.ensures.told in
     passed_on c.from_residual-in_err-node.result (NodesFull c.in_err-node.field-0.0.limit) _ _ c.from_residual-in_err-node.ensures.1
-    (name_nodes_over (reader c.args.self.now) c.args.word c.requires c.number.new.self c.in_ok-name.name told c.number.ensures.loan _ c.in_err-node.field-0.0 (made_none (forest c.args.self.now) _ c.in_err-node.field-0.0 c.in_err-node.ensures.told) depth d)
+    (name_nodes_over (reader c.args.self.now) c.args.word c.requires c.number.new.self c.in_ok-name.name told c.number.ensures.loan _ c.in_err-node.field-0.0 (made_none (forest c.args.self.now) _ c.in_err-node.field-0.0 c.in_err-node.ensures.told) depth)
 
 pub returns-in_err-name : goal.returns-in_err-name
-returns-in_err-name c = λ depth d.
+returns-in_err-name c = λ depth.
     let told = mapped_err _ _ _ c.number.result _ c.in_err-name.ensures.cases c.number.ensures.told in
     let full : c.in_err-name.field-0.0 ≡ NamesFull c.args.word.place = search (told.1, rules) in
     passed_on c.from_residual.result (NamesFull c.args.word.place) _ _ (search (c.from_residual.ensures.1, full, rules))
-    (name_over (reader c.args.self.now) c.args.word c.requires c.number.new.self told.0 told.2 depth d)
+    (name_over (reader c.args.self.now) c.args.word c.requires c.number.new.self told.0 told.2 depth)
 
 pub returns : goal.returns
-returns c = λ depth d.
+returns c = λ depth.
     let told = mapped_ok _ _ _ c.number.result c.in_ok-name.name c.in_ok-name.ensures.cases c.number.ensures.told in
-    name_read (reader c.args.self.now) c.args.word c.requires c.number.new.self c.in_ok-name.name told c.number.ensures.loan _ c.in_ok-node.node (made_one _ _ _ (forest c.args.self.now) _ c.in_ok-node.node (healthy c.args.self.now) refl c.in_ok-node.ensures.told c.in_ok-node.ensures.loan) c.advance.new.self c.advance.ensures c.args.self.now.few depth d
+    name_read (reader c.args.self.now) c.args.word c.requires c.number.new.self c.in_ok-name.name told c.number.ensures.loan _ c.in_ok-node.node (made_one _ _ _ (forest c.args.self.now) _ c.in_ok-node.node (healthy c.args.self.now) refl c.in_ok-node.ensures.told c.in_ok-node.ensures.loan) c.advance.new.self c.advance.ensures c.args.self.now.few depth
 
 pub invariant_of-self-in-Break-branch-2 : goal.invariant_of-self-in-Break-branch-2
 invariant_of-self-in-Break-branch-2 c =

@@ -24,22 +24,22 @@ overflow_add-kind c =
     omega arith
 
 pub returns-in_err-node : goal.returns-in_err-node
-returns-in_err-node c = λ depth d.
+returns-in_err-node c = λ depth.
     let told = mapped_ok _ _ _ c.number.result c.in_ok-kind.kind c.in_ok-kind.ensures.cases c.number.ensures.told in
     passed_on c.from_residual-in_err-node.result (NodesFull c.in_err-node.field-0.0.limit) _ _ c.from_residual-in_err-node.ensures.1
-    (token_nodes_over (reader c.args.self.now) c.args.word c.requires c.number.new.self c.in_ok-kind.kind told c.number.ensures.loan _ c.in_err-node.field-0.0 (made_none (forest c.args.self.now) _ c.in_err-node.field-0.0 c.in_err-node.ensures.told) depth d)
+    (token_nodes_over (reader c.args.self.now) c.args.word c.requires c.number.new.self c.in_ok-kind.kind told c.number.ensures.loan _ c.in_err-node.field-0.0 (made_none (forest c.args.self.now) _ c.in_err-node.field-0.0 c.in_err-node.ensures.told) depth)
 
 pub returns-in_err-kind : goal.returns-in_err-kind
-returns-in_err-kind c = λ depth d.
+returns-in_err-kind c = λ depth.
     let told = mapped_err _ _ _ c.number.result _ c.in_err-kind.ensures.cases c.number.ensures.told in
     let full : c.in_err-kind.field-0.0 ≡ KindsFull c.args.word.place = search (told.1, rules) in
     passed_on c.from_residual.result (KindsFull c.args.word.place) _ _ (search (c.from_residual.ensures.1, full, rules))
-    (token_over (reader c.args.self.now) c.args.word c.requires c.number.new.self told.0 told.2 depth d)
+    (token_over (reader c.args.self.now) c.args.word c.requires c.number.new.self told.0 told.2 depth)
 
 pub returns : goal.returns
-returns c = λ depth d.
+returns c = λ depth.
     let told = mapped_ok _ _ _ c.number.result c.in_ok-kind.kind c.in_ok-kind.ensures.cases c.number.ensures.told in
-    token_read (reader c.args.self.now) c.args.word c.requires c.number.new.self c.in_ok-kind.kind told c.number.ensures.loan _ c.in_ok-node.node (made_one _ _ _ (forest c.args.self.now) _ c.in_ok-node.node (healthy c.args.self.now) refl c.in_ok-node.ensures.told c.in_ok-node.ensures.loan) c.advance.new.self c.advance.ensures c.args.self.now.few depth d
+    token_read (reader c.args.self.now) c.args.word c.requires c.number.new.self c.in_ok-kind.kind told c.number.ensures.loan _ c.in_ok-node.node (made_one _ _ _ (forest c.args.self.now) _ c.in_ok-node.node (healthy c.args.self.now) refl c.in_ok-node.ensures.told c.in_ok-node.ensures.loan) c.advance.new.self c.advance.ensures c.args.self.now.few depth
 
 pub invariant_of-self-in-Break-branch-2 : goal.invariant_of-self-in-Break-branch-2
 invariant_of-self-in-Break-branch-2 c =
