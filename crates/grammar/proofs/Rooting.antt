@@ -10,7 +10,8 @@ use Rattle.tables.specs.declared.filling.Filling.{Filling}
 use Rattle.tables.specs.declared.full.Full.{Full}
 use Rattle.tree.specs.declared.class.Class.{Class}
 use Rattle.tree.specs.declared.class.Class.TheVariants.{Empty}
-use Rattle.grammar.specs.Forest.{nodes_of, roots_of, Place, place, Clean, limit_of, SamePlace, Healthy, Reduced}
+use Rattle.grammar.proofs.Soundness.{Healthy}
+use Rattle.grammar.specs.Forest.{nodes_of, roots_of, Place, place, Clean, limit_of, SamePlace, Reduced}
 use Rattle.grammar.specs.Trees.{Forest}
 
 pub each_take : {X : Type 0} (P : X → Type 0) (n : ℕ) (xs : List X) → Each P xs → Each P (take n xs)

@@ -4,10 +4,9 @@ use Rattle.grammar.specs.Trees.{Forest}
 use Rattle.grammar.specs.declared.opened.Opened.{Opened}
 use Rattle.grammar.specs.declared.piece.Bracket.{Bracket}
 use Rattle.grammar.specs.declared.piece.Bracket.TheVariants as bracket_is
-use Rattle.notation.specs.Statements.{Each}
 use Rattle.notation.specs.Tables.{add}
 use Rattle.tables.specs.Filling.{entries, room}
-use Rattle.tables.specs.Nodes.{zero_node, Made, over_row}
+use Rattle.tables.specs.Nodes.{Made, over_row}
 use Rattle.tables.specs.declared.filling.Filling.{Filling}
 use Rattle.tables.specs.declared.full.Full.{Full}
 use Rattle.tree.specs.declared.class.Class.{Class}
@@ -35,13 +34,6 @@ place t = record { long = length t.table.now; whose = t.table.ghost_name }
 -- every place past the entries has this value
 abbrev pub Clean : {E : Type 0} {L : ℕ} → Filling E L → E → Type 0
 Clean t zero = drop t.count t.table.now ≡ replicate (length t.table.now - t.count) zero
-
--- what holds between two calls: each root that waits is a node of its own, and unused places are 0
-pub record Healthy (f : Forest) : Type 0 where
-  pub fit : length (nodes_of f) ≤ limit_of f
-  pub few : length (roots_of f) ≤ length (nodes_of f)
-  pub small : Each (λ n. n < 1024) (roots_of f)
-  pub clean : Clean f.nodes zero_node
 
 -- the table is the same, and as long as it was
 abbrev pub SamePlace : Forest → Forest → Type 0
