@@ -2,8 +2,9 @@
 use Rattle.std.proofs.Common.{◌≡◌, ℕ, ◌<◌, ◌≤◌, List, [], ◌∷◌, ◌++◌, map, length, take, drop, Some, None, Option, sym, refl, ap, ◌∙◌, arith, length-append}
 use Rattle.grammar.proofs.Leaves.{rest_shorter}
 use Rattle.grammar.proofs.Moves.{fixed_same, fits, moved, fronted, tables_same}
-use Rattle.grammar.specs.Bodies.{closing_token, level_at, MarkFirst, BranchRead, BranchRefused, EndedGoes, EndedRefused, Closed, Unclosed}
-use Rattle.grammar.specs.Forest.{nodes_of, roots_of, place, over_group, over_branches, BranchEnded, BranchFull, Finished, Unfinished}
+use Rattle.grammar.specs.declared.depth.Depth.{Depth}
+use Rattle.grammar.specs.Bodies.{closing_token, level_at, MarkFirst, BranchRead, EndedGoes, EndedRefused, Closed, Unclosed}
+use Rattle.grammar.specs.Forest.{nodes_of, roots_of, place, over_group, over_branches, BranchEnded, Finished, Unfinished}
 use Rattle.grammar.specs.Reader.{tokens_of, tables_of, fixed, standing_ready}
 use Rattle.grammar.specs.Words.{bracket, rest_of, Advanced}
 use Rattle.grammar.specs.Trees.{Forest}
@@ -18,7 +19,7 @@ use Rattle.notation.specs.Reading.{nodes_full, refused, run}
 use Rattle.notation.specs.Standing.{ready}
 use Rattle.notation.specs.Tables.{Tables}
 use Rattle.notation.specs.Tokens.{Token, bar, semi, closing}
-use Rattle.notation.proofs.Steps.{bar_on, bar_nodes_full, closing_on, closing_nodes_full, semi_on, semi_nodes_full}
+use Rattle.notation.proofs.Steps.{bar_on, closing_on, closing_nodes_full, semi_on, semi_nodes_full}
 use Rattle.tables.specs.Meant.{name_meant, kind_meant}
 use Rattle.tables.specs.Nodes.{over_row}
 use Rattle.tables.specs.Nodes as tables
@@ -92,17 +93,6 @@ module _ (r : Reader) (first : MarkFirst r.words bar) (begin : ℕ) where
   abbrev row : tables.Made
   row = over_row class_is.Chain (drop begin (roots_of r.forest)) (nodes_of r.forest)
 
-  pub branch_full : (forest : Forest) (e : Full) → BranchFull begin r.forest forest e → BranchRefused begin r (record { words = r.words; names = r.names; kinds = r.kinds; forest = forest; lenders = r.lenders }) (NodesFull e.limit)
-  branch_full forest e h = record {
-    same = half_same r forest h.place;
-    told =
-        λ bs deep rule ended outer.
-        fronted bs rule outer r (bar first.spot) (rest_of (tokens_of r)) (record { ended = ended; items = items }) first.first
-        ∙ bar_nodes_full (fixed r).limits (rest_of (tokens_of r)) (fixed r).ending bs (record { tables = tables_of r; rule = rule; level = record { ended = ended; items = items }; outer = outer }) first.spot deep (fits r)
-        (omega (arith, h.full, ap (λ M. length M.tables.nodes) (sequence_row items (tables_of r))))
-        ∙ ap (λ n. refused (nodes_full n)) (sym h.told);
-  }
-
   pub branch_read : (forest : Forest) (h : BranchEnded begin r.forest forest) (after : Words) (a : Advanced r.words after) → BranchRead begin r (record { words = after; names = r.names; kinds = r.kinds; forest = forest; lenders = r.lenders })
   branch_read forest h after a = record {
     same = grown_same r forest h.place after a;
@@ -131,14 +121,14 @@ module _ (r : Reader) (from begin : ℕ) (ordered : from ≤ begin) where
   rest = rest_of (tokens_of r)
 
   full_told : (c : Option BracketOf) (first : MarkFirst r.words (closing_token c)) (forest : Forest) (e : Full) → Unfinished (with_mark c) r.forest forest e
-      → (depth : ℕ) → depth ≤ 32 → EndedRefused c depth r (level_at (with_mark c) (roots_of r.forest)) (NodesFull e.limit)
-  full_told None first forest e h depth d =
+      → (depth : Depth) → EndedRefused c depth r (level_at (with_mark c) (roots_of r.forest)) (NodesFull e.limit)
+  full_told None first forest e h depth =
       λ rule.
       fronted [] rule tt r (semi first.spot) rest level first.first
       ∙ semi_nodes_full (fixed r).limits rest (fixed r).ending (record { tables = tables_of r; rule = rule; level = level; outer = tt }) first.spot (fits r)
       (omega (arith, h.full, ap (λ M. length M.tables.nodes) (level_row level.ended level.items (tables_of r))))
       ∙ ap (λ n. refused (nodes_full n)) (sym h.told)
-  full_told (Some b) first forest e h depth d =
+  full_told (Some b) first forest e h depth =
       λ bs deep rule around outer.
       fronted (bracket b ∷ bs) rule (around, outer) r (closing (bracket b) first.spot) rest level first.first
       ∙ closing_nodes_full (fixed r).limits rest (fixed r).ending (bracket b) bs (record { tables = tables_of r; rule = rule; level = level; outer = (around, outer) }) first.spot (omega arith) (fits r)
@@ -146,12 +136,12 @@ module _ (r : Reader) (from begin : ℕ) (ordered : from ≤ begin) where
       ∙ ap (λ n. refused (nodes_full n)) (sym h.told)
 
   pub closed_full : (c : Option BracketOf) (first : MarkFirst r.words (closing_token c)) (forest : Forest) (e : Full) → Unfinished (with_mark c) r.forest forest e
-      → (depth : ℕ) → depth ≤ 32 → Unclosed c depth (level_at (with_mark c) (roots_of r.forest)) r (record { words = r.words; names = r.names; kinds = r.kinds; forest = forest; lenders = r.lenders }) (NodesFull e.limit)
-  closed_full c first forest e h depth d = record { same = half_same r forest h.place; told = full_told c first forest e h depth d }
+      → (depth : Depth) → Unclosed c depth (level_at (with_mark c) (roots_of r.forest)) r (record { words = r.words; names = r.names; kinds = r.kinds; forest = forest; lenders = r.lenders }) (NodesFull e.limit)
+  closed_full c first forest e h depth = record { same = half_same r forest h.place; told = full_told c first forest e h depth }
 
   closed_goes : (c : Option BracketOf) (first : MarkFirst r.words (closing_token c)) (forest : Forest) (n : ℕ) (h : Finished (with_mark c) r.forest forest n) (after : Words) (a : Advanced r.words after)
-      → (depth : ℕ) → depth ≤ 32 → EndedGoes c depth r (record { words = after; names = r.names; kinds = r.kinds; forest = forest; lenders = r.lenders }) (level_at (with_mark c) (roots_of r.forest)) n
-  closed_goes None first forest n h after a depth d =
+      → (depth : Depth) → EndedGoes c depth r (record { words = after; names = r.names; kinds = r.kinds; forest = forest; lenders = r.lenders }) (level_at (with_mark c) (roots_of r.forest)) n
+  closed_goes None first forest n h after a depth =
       λ rule.
       let q : Reader = record { words = after; names = r.names; kinds = r.kinds; forest = forest; lenders = r.lenders } in
       let M : tables.Made = over_branches level.ended level.items (nodes_of r.forest) in
@@ -162,7 +152,7 @@ module _ (r : Reader) (from begin : ℕ) (ordered : from ≤ begin) where
       ∙ semi_on (fixed r).limits rest (fixed r).ending (record { tables = tables_of r; rule = rule; level = level; outer = tt }) first.spot (fits r)
       (omega (arith, h.fits, ap length h.nodes, ap (λ M. length M.tables.nodes) (level_row level.ended level.items (tables_of r))))
       ∙ ready_moved r q (rule_ended rule (end_level level (tables_of r))) (rule_ended rule (record { tables = tables_of q; at = n })) rest same (ap (rule_ended rule) made) (sym a.rest)
-  closed_goes (Some b) first forest n h after a depth d =
+  closed_goes (Some b) first forest n h after a depth =
       λ bs deep rule around outer.
       let q : Reader = record { words = after; names = r.names; kinds = r.kinds; forest = forest; lenders = r.lenders } in
       let M : tables.Made = over_group (Some b) (over_branches level.ended level.items (nodes_of r.forest)) in
@@ -175,12 +165,12 @@ module _ (r : Reader) (from begin : ℕ) (ordered : from ≤ begin) where
       (ap (λ M. M.tables) row ∙ grown_tables r forest h.place after a M.nodes h.nodes) (sym a.rest) (ap (λ M. one_more around M.at) row ∙ ap (one_more around) (sym h.number))
 
   pub closed_read : (c : Option BracketOf) (first : MarkFirst r.words (closing_token c)) (forest : Forest) (n : ℕ) (h : Finished (with_mark c) r.forest forest n) (after : Words) (a : Advanced r.words after)
-      → (depth : ℕ) → depth ≤ 32 → Closed c depth (take from (roots_of r.forest)) (level_at (with_mark c) (roots_of r.forest)) r (record { words = after; names = r.names; kinds = r.kinds; forest = forest; lenders = r.lenders }) n
-  closed_read c first forest n h after a depth d = record {
+      → (depth : Depth) → Closed c depth (take from (roots_of r.forest)) (level_at (with_mark c) (roots_of r.forest)) r (record { words = after; names = r.names; kinds = r.kinds; forest = forest; lenders = r.lenders }) n
+  closed_read c first forest n h after a depth = record {
     same = grown_same r forest h.place after a;
     roots_left = h.fewer;
     own = h.own;
     small = h.small;
     shorter = omega (arith, ap length a.rest, rest_shorter (tokens_of r) (closing_token c first.spot) first.first);
-    goes = closed_goes c first forest n h after a depth d;
+    goes = closed_goes c first forest n h after a depth;
   }

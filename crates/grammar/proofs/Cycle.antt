@@ -1,6 +1,7 @@
 -- Branches, sequences and items, as they are read one after another.
-use Rattle.std.proofs.Common.{◌≡◌, ℕ, ◌≤◌, List, [], ◌∷◌, ◌++◌, length, take, drop, Some, None, Ok, Err, Option, Result, sym, refl, ap, ◌∙◌, subst, arith, length-append, MatchResult}
-use Rattle.std.proofs.lemmas.List.{append-nil, append_assoc, take_all, take-append-le, drop_all, drop-append-le}
+use Rattle.std.proofs.Common.{◌≡◌, ℕ, ◌≤◌, List, [], ◌∷◌, ◌++◌, length, take, drop, Some, None, Ok, Err, Option, Result, sym, ap, ◌∙◌, subst, arith, length-append, MatchResult}
+use Rattle.std.proofs.lemmas.List.{append_assoc, take_all, take-append-le, drop_all, drop-append-le}
+use Rattle.grammar.specs.declared.depth.Depth.{Depth}
 use Rattle.grammar.specs.Bodies.{MarkFirst, level_at, BranchRead, BranchRefused, FitsDepth, EndedGoes, EndedRefused, Closed, Unclosed, SequenceRead}
 use Rattle.grammar.specs.Forest.{roots_of}
 use Rattle.grammar.specs.Reader.{text_of, tokens_of, standing, fixed}
@@ -17,15 +18,12 @@ use Rattle.notation.specs.Reading.{Levels, Outcome}
 use Rattle.notation.specs.Tokens.{Bracket, bar}
 
 -- some branches have ended
-pub record BranchesOn (depth : ℕ) (before after : Reader) : Type 0 where
+pub record BranchesOn (depth : Depth) (before after : Reader) : Type 0 where
   pub same : fixed after ≡ fixed before
   pub ended : List ℕ
   pub more : roots_of after.forest ≡ roots_of before.forest ++ ended
   pub no_longer : length (tokens_of after) ≤ length (tokens_of before)
-  pub goes : (bs : List Bracket) → length bs ≡ depth → (rule : ℕ) (outer : Levels bs) → standing before bs rule no_level outer ≡ standing after bs rule (record { ended = ended; items = [] }) outer
-
-pub no_branch_yet : (depth : ℕ) (r : Reader) → BranchesOn depth r r
-no_branch_yet depth r = record { same = refl; ended = []; more = sym (append-nil (roots_of r.forest)); no_longer = omega arith; goes = λ bs deep rule outer. refl }
+  pub goes : (bs : List Bracket) → length bs ≡ depth.brackets → (rule : ℕ) (outer : Levels bs) → standing before bs rule no_level outer ≡ standing after bs rule (record { ended = ended; items = [] }) outer
 
 pub refused_so : (e : Refusal) (o u : Outcome) → o ≡ u → RefusedAs e u → RefusedAs e o
 refused_so e o u p h = subst (RefusedAs e) (sym p) h
@@ -37,12 +35,12 @@ drop_front : (n : ℕ) (xs ys : List ℕ) → n ≡ length xs → drop n (xs ++ 
 drop_front n xs ys e = drop-append-le n xs ys (omega arith) ∙ ap (λ l. l ++ ys) (drop_all n xs (omega arith))
 
 -- what is refused within branches
-pub refused_within : (c : Option BracketOf) (depth : ℕ) (l : Level) (r : Reader) (e : Refusal) → FitsDepth c depth → ((bs : List Bracket) → length bs ≡ depth → (rule : ℕ) (outer : Levels bs) → RefusedAs e (standing r bs rule l outer)) → EndedRefused c depth r l e
+pub refused_within : (c : Option BracketOf) (depth : Depth) (l : Level) (r : Reader) (e : Refusal) → FitsDepth c depth → ((bs : List Bracket) → length bs ≡ depth.brackets → (rule : ℕ) (outer : Levels bs) → RefusedAs e (standing r bs rule l outer)) → EndedRefused c depth r l e
 refused_within None depth l r e d h = λ rule. h [] (sym d) rule tt
 refused_within (Some b) depth l r e d h = λ bs deep rule around outer. h (bracket b ∷ bs) deep rule (around, outer)
 
 -- from a reader r with the roots below index from, over ended branches to m, over a sequence to n, at a mark
-module _ (depth : ℕ) (r m n : Reader) (b : BranchesOn depth r m) (x : Word) (q : SequenceRead depth m n x) (from begin : ℕ) (low : from ≡ length (roots_of r.forest)) (high : begin ≡ length (roots_of m.forest)) where
+module _ (depth : Depth) (r m n : Reader) (b : BranchesOn depth r m) (x : Word) (q : SequenceRead depth m n x) (from begin : ℕ) (low : from ≡ length (roots_of r.forest)) (high : begin ≡ length (roots_of m.forest)) where
   abbrev items : List ℕ
   items = q.on.items
 
@@ -68,19 +66,19 @@ module _ (depth : ℕ) (r m n : Reader) (b : BranchesOn depth r m) (x : Word) (q
   at_mark c = record { closing = c; from = from; begin = begin; ordered = low_high }
 
   -- the level of the branches, as it is at the mark
-  to_items : (bs : List Bracket) → length bs ≡ depth → (rule : ℕ) (outer : Levels bs) → standing r bs rule no_level outer ≡ standing n bs rule (record { ended = b.ended; items = drop begin (roots_of n.forest) }) outer
+  to_items : (bs : List Bracket) → length bs ≡ depth.brackets → (rule : ℕ) (outer : Levels bs) → standing r bs rule no_level outer ≡ standing n bs rule (record { ended = b.ended; items = drop begin (roots_of n.forest) }) outer
   to_items bs deep rule outer =
       b.goes bs deep rule outer ∙ q.on.goes bs deep rule (record { ended = b.ended; items = [] }) outer ∙ ap (λ l. standing n bs rule (record { ended = b.ended; items = l }) outer) (sym items_part)
 
-  to_level : (bs : List Bracket) → length bs ≡ depth → (rule : ℕ) (outer : Levels bs) → standing r bs rule no_level outer ≡ standing n bs rule (record { ended = drop from (take begin (roots_of n.forest)); items = drop begin (roots_of n.forest) }) outer
+  to_level : (bs : List Bracket) → length bs ≡ depth.brackets → (rule : ℕ) (outer : Levels bs) → standing r bs rule no_level outer ≡ standing n bs rule (record { ended = drop from (take begin (roots_of n.forest)); items = drop begin (roots_of n.forest) }) outer
   to_level bs deep rule outer = to_items bs deep rule outer ∙ ap (λ l. standing n bs rule (record { ended = l; items = drop begin (roots_of n.forest) }) outer) (sym ended_is)
 
   -- a bar
   pub bar_first : x.piece ≡ piece_is.Bar → MarkFirst n.words bar
   bar_first e = record { spot = word_spot (text_of n) x; first = q.first ∙ ap (λ k. piece_token k (word_spot (text_of n) x) ∷ rest_of (tokens_of n)) e }
 
-  pub branch_more : depth ≤ 32 → (after : Reader) → BranchRead begin n after → BranchesOn depth r after
-  branch_more d after h = record {
+  pub branch_more : (after : Reader) → BranchRead begin n after → BranchesOn depth r after
+  branch_more after h = record {
     same = h.same ∙ q.on.same ∙ b.same;
     ended = b.ended ++ h.node ∷ [];
     more = h.more ∙ ap (λ l. l ++ h.node ∷ []) (ended_part ∙ b.more) ∙ append_assoc (roots_of r.forest) b.ended (h.node ∷ []);
@@ -88,8 +86,8 @@ module _ (depth : ℕ) (r m n : Reader) (b : BranchesOn depth r m) (x : Word) (q
     goes = λ bs deep rule outer. to_items bs deep rule outer ∙ h.goes bs (omega arith) rule b.ended outer;
   }
 
-  pub branch_unclosed : (c : Option BracketOf) → FitsDepth c depth → depth ≤ 32 → (after : Reader) (e : Refusal) → BranchRefused begin n after e → Unclosed c depth no_level r after e
-  branch_unclosed c d few after e h = record {
+  pub branch_unclosed : (c : Option BracketOf) → FitsDepth c depth → (after : Reader) (e : Refusal) → BranchRefused begin n after e → Unclosed c depth no_level r after e
+  branch_unclosed c d after e h = record {
     same = h.same ∙ q.on.same ∙ b.same;
     told =
         refused_within c depth no_level r e d
@@ -107,11 +105,11 @@ module _ (depth : ℕ) (r m n : Reader) (b : BranchesOn depth r m) (x : Word) (q
       λ bs deep rule around outer.
       refused_so e (standing r (bracket b ∷ bs) rule no_level (around, outer)) (standing n (bracket b ∷ bs) rule (level_at (at_mark (Some b)) (roots_of n.forest)) (around, outer)) (to_level (bracket b ∷ bs) deep rule (around, outer)) (g bs deep rule around outer)
 
-  pub all_closed : (c : Option BracketOf) → FitsDepth c depth → depth ≤ 32 → (after : Reader) (res : Result ℕ Refusal)
-      → ((k : ℕ) → k ≤ 32 → MatchResult res (Closed c k (take from (roots_of n.forest)) (level_at (at_mark c) (roots_of n.forest)) n after) (Unclosed c k (level_at (at_mark c) (roots_of n.forest)) n after))
+  pub all_closed : (c : Option BracketOf) → FitsDepth c depth → (after : Reader) (res : Result ℕ Refusal)
+      → ((k : Depth) → MatchResult res (Closed c k (take from (roots_of n.forest)) (level_at (at_mark c) (roots_of n.forest)) n after) (Unclosed c k (level_at (at_mark c) (roots_of n.forest)) n after))
       → MatchResult res (Closed c depth (roots_of r.forest) no_level r after) (Unclosed c depth no_level r after)
-  all_closed c d few after (Ok k) h =
-      let g = h depth few in
+  all_closed c d after (Ok k) h =
+      let g = h depth in
       record {
         same = g.same ∙ q.on.same ∙ b.same;
         roots_left = g.roots_left ∙ left_is;
@@ -120,6 +118,6 @@ module _ (depth : ℕ) (r m n : Reader) (b : BranchesOn depth r m) (x : Word) (q
         shorter = omega (arith, g.shorter, q.on.no_longer, b.no_longer);
         goes = goes_to_end c d after k g.goes;
       }
-  all_closed c d few after (Err e) h =
-      let g = h depth few in
+  all_closed c d after (Err e) h =
+      let g = h depth in
       record { same = g.same ∙ q.on.same ∙ b.same; told = refused_to_end c d e g.told }

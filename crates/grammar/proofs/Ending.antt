@@ -1,6 +1,7 @@
 -- The mark after the last sequence, and what cannot stand there.
-use Rattle.std.proofs.Common.{◌≡◌, ℕ, ◌≤◌, List, [], ◌∷◌, Some, None, Option, refl, ap, ◌∙◌, arith}
+use Rattle.std.proofs.Common.{◌≡◌, ℕ, List, [], ◌∷◌, Some, None, Option, refl, ap, ◌∙◌, arith}
 use Rattle.grammar.proofs.Moves.{fronted}
+use Rattle.grammar.specs.declared.depth.Depth.{Depth}
 use Rattle.grammar.specs.Bodies.{closing_piece, closing_token, MarkFirst, EndedRefused, Unclosed}
 use Rattle.grammar.specs.Reader.{text_of, tokens_of, tables_of, fixed, Ends}
 use Rattle.grammar.specs.Words.{bracket, piece_token, word_spot, tokens, rest_of, WordTold}
@@ -31,7 +32,7 @@ module _ (r : Reader) (l : Level) (s : Spot) where
   abbrev rest : List Token
   rest = rest_of (tokens_of r)
 
-  misplaced_mark : (c : Option BracketOf) (k : Piece) → tokens_of r ≡ piece_token k s ∷ rest_of (tokens_of r) → Ends k → (k ≡ piece_is.Bar → ⊥) → (k ≡ closing_piece c → ⊥) → (depth : ℕ) → EndedRefused c depth r l (Misplaced s.place)
+  misplaced_mark : (c : Option BracketOf) (k : Piece) → tokens_of r ≡ piece_token k s ∷ rest_of (tokens_of r) → Ends k → (k ≡ piece_is.Bar → ⊥) → (k ≡ closing_piece c → ⊥) → (depth : Depth) → EndedRefused c depth r l (Misplaced s.place)
   misplaced_mark None piece_is.Semicolon first ends bar ne depth = absurd (ne refl)
   misplaced_mark None (piece_is.Closing b) first ends bar ne depth =
       λ rule. fronted [] rule tt r (closing (bracket b) s) rest l first ∙ closing_none_misplaced (fixed r).limits rest (fixed r).ending (record { tables = tables_of r; rule = rule; level = l; outer = tt }) (bracket b) s
@@ -49,8 +50,8 @@ module _ (r : Reader) (l : Level) (s : Spot) where
   misplaced_mark c piece_is.Arrow first ends bar ne depth = absurd ends
   misplaced_mark c (piece_is.Opening b) first ends bar ne depth = absurd ends
 
-pub unclosed_mark : (r : Reader) (l : Level) (c : Option BracketOf) (x : Word) → WordTold r.words x → Ends x.piece → (x.piece ≡ piece_is.Bar → ⊥) → (x.piece ≡ closing_piece c → ⊥) → (depth : ℕ) → depth ≤ 32 → Unclosed c depth l r r (Misplaced x.place)
-unclosed_mark r l c x first ends bar ne depth d = record { same = refl; told = misplaced_mark r l (word_spot (text_of r) x) c x.piece first ends bar ne depth }
+pub unclosed_mark : (r : Reader) (l : Level) (c : Option BracketOf) (x : Word) → WordTold r.words x → Ends x.piece → (x.piece ≡ piece_is.Bar → ⊥) → (x.piece ≡ closing_piece c → ⊥) → (depth : Depth) → Unclosed c depth l r r (Misplaced x.place)
+unclosed_mark r l c x first ends bar ne depth = record { same = refl; told = misplaced_mark r l (word_spot (text_of r) x) c x.piece first ends bar ne depth }
 
 closing_is : (c : Option BracketOf) (s : Spot) → piece_token (closing_piece c) s ≡ closing_token c s
 closing_is None s = refl

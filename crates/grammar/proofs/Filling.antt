@@ -1,6 +1,7 @@
 -- A reading from its first token on, and what it leaves in the tables.
 use Rattle.std.proofs.Common.{◌≡◌, ℕ, ◌-◌, List, [], ◌∷◌, map, length, take, drop, replicate, Some, filter, sym, refl, ap, ◌∙◌, inr, arith, length-take}
 use Rattle.std.proofs.lemmas.List.{length-replicate}
+use Rattle.grammar.proofs.Soundness.{Sound}
 use Rattle.grammar.proofs.Cycle.{refused_so}
 use Rattle.grammar.proofs.Moves.{tables_same}
 use Rattle.grammar.specs.Filled.{behind, Fresh, outcome, Filled, Unfilled}
@@ -9,7 +10,7 @@ use Rattle.grammar.specs.Judged.{Lent, limits_of, held, Used, AsLong}
 use Rattle.grammar.specs.Notation.{notation_kinds}
 use Rattle.grammar.specs.Parts.{Reader}
 use Rattle.grammar.specs.Reader.{text_of, tokens_of, tables_of, fixed}
-use Rattle.grammar.specs.Sound.{Sound, zero_name, zero_spelling}
+use Rattle.grammar.specs.Sound.{zero_name, zero_spelling}
 use Rattle.grammar.specs.Rules.{at_rule, HeadRefused, AllRead}
 use Rattle.grammar.specs.Source.{source_token, sorted, ending_meant, scanned, grammar_tokens, grammar_ending}
 use Rattle.grammar.specs.declared.refusal.Refusal.{Refusal}

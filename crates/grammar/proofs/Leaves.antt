@@ -7,6 +7,7 @@ use Rattle.grammar.specs.Forest.{nodes_of, roots_of, MadeOne, MadeNone}
 use Rattle.grammar.specs.Reader.{text_of, tokens_of, tables_of, fixed, NamedFirst, SpellingFirst, TerminalFirst, NodeRead, ItemTold, ItemRefused}
 use Rattle.grammar.specs.Words.{name_entry, kind_entry, word_spot, piece_token, rest_of, Advanced}
 use Rattle.grammar.specs.Leaf.{LeafRead, LeafRefused}
+use Rattle.grammar.specs.declared.depth.Depth.{Depth}
 use Rattle.grammar.specs.Trees.{Forest}
 use Rattle.grammar.specs.declared.items.Item.{Item}
 use Rattle.grammar.specs.declared.items.Item.TheVariants.{Node, Mark}
@@ -52,8 +53,8 @@ module _ (r : Reader) (x : Word) where
     name_first = first.first ∙ ap (λ p. piece_token p (word_spot (text_of r) x) ∷ rest_of (tokens_of r)) first.is
 
     pub name_over : (names : Filling Name 64) (e : Full) → Refused (λ e. e.place) (λ e. e.length) (text_of r) (name_entry x) r.names names e
-        → (depth : ℕ) → depth ≤ 32 → ItemRefused depth r (record { words = r.words; names = names; kinds = r.kinds; forest = r.forest; lenders = r.lenders }) (NamesFull x.place)
-    name_over names e m depth d = record {
+        → (depth : Depth) → ItemRefused depth r (record { words = r.words; names = names; kinds = r.kinds; forest = r.forest; lenders = r.lenders }) (NamesFull x.place)
+    name_over names e m depth = record {
       same = ap (λ n. fixed (record { words = r.words; names = n; kinds = r.kinds; forest = r.forest; lenders = r.lenders })) m.same;
       told =
           λ bs deep rule l outer.
@@ -66,8 +67,8 @@ module _ (r : Reader) (x : Word) where
       few_names = names_fit (text_of r) r.names names (name_entry x) refl i m
 
       pub name_nodes_over : (forest : Forest) (e : Full) → MadeNone r.forest forest e
-          → (depth : ℕ) → depth ≤ 32 → ItemRefused depth r (record { words = r.words; names = names; kinds = r.kinds; forest = forest; lenders = r.lenders }) (NodesFull e.limit)
-      name_nodes_over forest e h depth d = record {
+          → (depth : Depth) → ItemRefused depth r (record { words = r.words; names = names; kinds = r.kinds; forest = forest; lenders = r.lenders }) (NodesFull e.limit)
+      name_nodes_over forest e h depth = record {
         same = fixed_same r (record { words = r.words; names = names; kinds = r.kinds; forest = forest; lenders = r.lenders }) refl refl (kept_place r.names names m.kept loan) refl h.place refl;
         told =
             λ bs deep rule l outer.
@@ -90,8 +91,8 @@ module _ (r : Reader) (x : Word) where
             (ap (λ t. map (kind_meant t) (entries r.kinds)) (sym a.text_same))
             (ap (λ k. add class_is.Name k 1024 (nodes_of r.forest)) (sym (name_number (text_of r) r.names names (name_entry x) refl i m)) ∙ sym h.nodes)
 
-        pub name_read : (few : length (roots_of r.forest) ≤ length (nodes_of r.forest)) (depth : ℕ) → depth ≤ 32 → NodeRead depth r (record { words = after; names = names; kinds = r.kinds; forest = forest; lenders = r.lenders }) n
-        name_read few depth d = record {
+        pub name_read : (few : length (roots_of r.forest) ≤ length (nodes_of r.forest)) (depth : Depth) → NodeRead depth r (record { words = after; names = names; kinds = r.kinds; forest = forest; lenders = r.lenders }) n
+        name_read few depth = record {
           same = same;
           same_roots = h.same_roots;
           own = omega (arith, ap length h.same_roots, ap length h.nodes, length-append (nodes_of r.forest) (record { class = class_is.Name; value = i; first = 1024; next = 1024 } ∷ []), few);
@@ -104,15 +105,15 @@ module _ (r : Reader) (x : Word) where
               ∙ moved bs rule outer r q (make_name spot (tables_of r)).tables (rest_of (tokens_of r)) (one_more l (make_name spot (tables_of r)).at) (one_more l n) same tables (sym a.rest) (ap (one_more l) (sym h.number));
         }
 
-      pub name_leaf : (after : Reader) (res : Result Item Refusal) → MatchResult res (LeafRead class_is.Name i (numbered_names names) after) (LeafRefused (numbered_names names) after) → length (roots_of r.forest) ≤ length (nodes_of r.forest) → (depth : ℕ) → depth ≤ 32 → MatchResult res (ItemTold depth r after) (ItemRefused depth r after)
-      name_leaf after (Ok (Node n)) h few depth d = subst (λ q. NodeRead depth r q n) (sym h.beside) (name_read after.forest n h.made after.words h.went few depth d)
-      name_leaf after (Ok (Mark y)) none few depth d = absurd none
-      name_leaf after (Err e) h few depth d = rw (h.beside, h.told) (name_nodes_over after.forest h.full h.none depth d)
+      pub name_leaf : (after : Reader) (res : Result Item Refusal) → MatchResult res (LeafRead class_is.Name i (numbered_names names) after) (LeafRefused (numbered_names names) after) → length (roots_of r.forest) ≤ length (nodes_of r.forest) → (depth : Depth) → MatchResult res (ItemTold depth r after) (ItemRefused depth r after)
+      name_leaf after (Ok (Node n)) h few depth = subst (λ q. NodeRead depth r q n) (sym h.beside) (name_read after.forest n h.made after.words h.went few depth)
+      name_leaf after (Ok (Mark y)) none few depth = absurd none
+      name_leaf after (Err e) h few depth = rw (h.beside, h.told) (name_nodes_over after.forest h.full h.none depth)
 
   module _ (first : TerminalFirst r.words x) where
     pub token_over : (kinds : Filling Spelling 120) (e : Full) → Refused (λ e. e.place) (λ e. e.length) (text_of r) (kind_entry x) r.kinds kinds e
-        → (depth : ℕ) → depth ≤ 32 → ItemRefused depth r (record { words = r.words; names = r.names; kinds = kinds; forest = r.forest; lenders = r.lenders }) (KindsFull x.place)
-    token_over kinds e m depth d = record {
+        → (depth : Depth) → ItemRefused depth r (record { words = r.words; names = r.names; kinds = kinds; forest = r.forest; lenders = r.lenders }) (KindsFull x.place)
+    token_over kinds e m depth = record {
       same = ap (λ n. fixed (record { words = r.words; names = r.names; kinds = n; forest = r.forest; lenders = r.lenders })) m.same;
       told =
           λ bs deep rule l outer.
@@ -125,8 +126,8 @@ module _ (r : Reader) (x : Word) where
       few_kinds = kinds_fit (text_of r) r.kinds kinds (kind_entry x) i m
 
       pub token_nodes_over : (forest : Forest) (e : Full) → MadeNone r.forest forest e
-          → (depth : ℕ) → depth ≤ 32 → ItemRefused depth r (record { words = r.words; names = r.names; kinds = kinds; forest = forest; lenders = r.lenders }) (NodesFull e.limit)
-      token_nodes_over forest e h depth d = record {
+          → (depth : Depth) → ItemRefused depth r (record { words = r.words; names = r.names; kinds = kinds; forest = forest; lenders = r.lenders }) (NodesFull e.limit)
+      token_nodes_over forest e h depth = record {
         same = fixed_same r (record { words = r.words; names = r.names; kinds = kinds; forest = forest; lenders = r.lenders }) refl refl refl (kept_place r.kinds kinds m.kept loan) h.place refl;
         told =
             λ bs deep rule l outer.
@@ -149,8 +150,8 @@ module _ (r : Reader) (x : Word) where
             (sym (kinds_are (text_of r) r.kinds kinds (kind_entry x) i m) ∙ ap (λ t. map (kind_meant t) (entries kinds)) (sym a.text_same))
             (ap (λ k. add class_is.Token k 1024 (nodes_of r.forest)) (sym (one_add_right i ∙ ap suc (kind_number (text_of r) r.kinds kinds (kind_entry x) i m))) ∙ sym h.nodes)
 
-        pub token_read : (few : length (roots_of r.forest) ≤ length (nodes_of r.forest)) (depth : ℕ) → depth ≤ 32 → NodeRead depth r (record { words = after; names = r.names; kinds = kinds; forest = forest; lenders = r.lenders }) n
-        token_read few depth d = record {
+        pub token_read : (few : length (roots_of r.forest) ≤ length (nodes_of r.forest)) (depth : Depth) → NodeRead depth r (record { words = after; names = r.names; kinds = kinds; forest = forest; lenders = r.lenders }) n
+        token_read few depth = record {
           same = token_same;
           same_roots = h.same_roots;
           own = omega (arith, ap length h.same_roots, ap length h.nodes, length-append (nodes_of r.forest) (record { class = class_is.Token; value = i + 1; first = 1024; next = 1024 } ∷ []), few);
@@ -163,18 +164,18 @@ module _ (r : Reader) (x : Word) where
               ∙ moved bs rule outer r q_token (make_token spot (tables_of r)).tables (rest_of (tokens_of r)) (one_more l (make_token spot (tables_of r)).at) (one_more l n) token_same token_tables (sym a.rest) (ap (one_more l) (sym h.number));
         }
 
-      pub token_leaf : (after : Reader) (res : Result Item Refusal) → MatchResult res (LeafRead class_is.Token (i + 1) (numbered_kinds kinds) after) (LeafRefused (numbered_kinds kinds) after) → length (roots_of r.forest) ≤ length (nodes_of r.forest) → (depth : ℕ) → depth ≤ 32 → MatchResult res (ItemTold depth r after) (ItemRefused depth r after)
-      token_leaf after (Ok (Node n)) h few depth d = subst (λ q. NodeRead depth r q n) (sym h.beside) (token_read after.forest n h.made after.words h.went few depth d)
-      token_leaf after (Ok (Mark y)) none few depth d = absurd none
-      token_leaf after (Err e) h few depth d = rw (h.beside, h.told) (token_nodes_over after.forest h.full h.none depth d)
+      pub token_leaf : (after : Reader) (res : Result Item Refusal) → MatchResult res (LeafRead class_is.Token (i + 1) (numbered_kinds kinds) after) (LeafRefused (numbered_kinds kinds) after) → length (roots_of r.forest) ≤ length (nodes_of r.forest) → (depth : Depth) → MatchResult res (ItemTold depth r after) (ItemRefused depth r after)
+      token_leaf after (Ok (Node n)) h few depth = subst (λ q. NodeRead depth r q n) (sym h.beside) (token_read after.forest n h.made after.words h.went few depth)
+      token_leaf after (Ok (Mark y)) none few depth = absurd none
+      token_leaf after (Err e) h few depth = rw (h.beside, h.told) (token_nodes_over after.forest h.full h.none depth)
 
 -- a spelling that may be none
 module _ (r : Reader) (x : Word) (first : SpellingFirst r.words x) (w : List ℕ) (is : w ≡ cut (text_of r) x.place x.length) where
   spelling_token : tokens_of r ≡ terminal spelling (word_spot (text_of r) x) ∷ rest_of (tokens_of r)
   spelling_token = first.first ∙ ap (λ p. piece_token p (word_spot (text_of r) x) ∷ rest_of (tokens_of r)) first.is
 
-  pub misspelt : is_spelling w ≡ false → (depth : ℕ) → depth ≤ 32 → ItemRefused depth r r (Misspelt x.place)
-  misspelt bad depth d = record {
+  pub misspelt : is_spelling w ≡ false → (depth : Depth) → ItemRefused depth r r (Misspelt x.place)
+  misspelt bad depth = record {
     same = refl;
     told =
         λ bs deep rule l outer.

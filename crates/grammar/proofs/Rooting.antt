@@ -1,5 +1,5 @@
 -- Trees that grow from their roots.
-use Rattle.std.proofs.Common.{◌≡◌, ℕ, zero, suc, ◌+◌, ◌-◌, ◌<◌, ◌≤◌, List, [], ◌∷◌, ◌++◌, length, take, drop, replicate, sym, ap, ◌∙◌, subst, arith, length-append, length-drop, length-take, Ok, Err, Result, MatchResult}
+use Rattle.std.proofs.Common.{◌≡◌, ℕ, zero, suc, ◌+◌, ◌-◌, ◌<◌, ◌≤◌, List, [], ◌∷◌, length, take, drop, replicate, sym, ap, ◌∙◌, subst, arith, length-drop, length-take, Ok, Err, Result, MatchResult}
 use Rattle.std.proofs.lemmas.List.{drop-drop, drop-replicate}
 use Rattle.notation.specs.Statements.{Each}
 use Rattle.notation.specs.Tables.{link}
@@ -10,7 +10,8 @@ use Rattle.tables.specs.declared.filling.Filling.{Filling}
 use Rattle.tables.specs.declared.full.Full.{Full}
 use Rattle.tree.specs.declared.class.Class.{Class}
 use Rattle.tree.specs.declared.class.Class.TheVariants.{Empty}
-use Rattle.grammar.specs.Forest.{nodes_of, roots_of, Place, place, Clean, Healthy, MadeOne, MadeNone, Pushed, Reduced, Unreduced}
+use Rattle.grammar.proofs.Soundness.{Healthy}
+use Rattle.grammar.specs.Forest.{MadeOne, MadeNone, nodes_of, roots_of, Place, place, Clean, Reduced}
 use Rattle.grammar.specs.Trees.{Forest}
 
 pub each_take : {X : Type 0} (P : X → Type 0) (n : ℕ) (xs : List X) → Each P xs → Each P (take n xs)
@@ -22,10 +23,6 @@ pub each_drop : {X : Type 0} (P : X → Type 0) (n : ℕ) (xs : List X) → Each
 each_drop P zero xs h = h
 each_drop P (suc n) [] h = tt
 each_drop P (suc n) (x ∷ xs) h = each_drop P n xs h.1
-
-pub each_more : {X : Type 0} (P : X → Type 0) (xs : List X) (x : X) → Each P xs → P x → Each P (xs ++ x ∷ [])
-each_more P [] x h p = (p, tt)
-each_more P (y ∷ ys) x h p = (h.0, each_more P ys x h.1 p)
 
 abbrev Small : List ℕ → Type 0
 Small ns = Each (λ n. n < 1024) ns
@@ -55,16 +52,11 @@ made_one c v f before after n well same m loan =
       nodes = m.nodes;
       same_roots = same;
       room = omega arith;
-      healthy = record { fit = omega arith; few = omega (arith, ap length same, well.few); small = subst Small (sym same) well.small; clean = still_clean before.nodes after.nodes zero_node m.kept well.clean };
       place = kept_place before.nodes after.nodes m.kept loan;
     }
 
 pub made_none : (before after : Forest) (e : Full) → IsFull before.nodes after.nodes e → MadeNone before after e
 made_none before after e m = record { full = m.full; told = m.told; place = ap place m.same }
-
-pub made_told : (c : Class) (v f : ℕ) (before after : Forest) (r : Result ℕ Full) → Healthy before → roots_of after ≡ roots_of before → MatchResult r (NodeMade c v f before.nodes after.nodes) (IsFull before.nodes after.nodes) → after.nodes.table.ghost_name ≡ before.nodes.table.ghost_name → MatchResult r (MadeOne c v f before after) (MadeNone before after)
-made_told c v f before after (Ok n) well same m loan = made_one c v f before after n well same m loan
-made_told c v f before after (Err e) well same m loan = made_none before after e m
 
 -- nodes are no fewer after a call, whether it is refused or not
 module _ (c : Class) (v f : ℕ) (before after : Nodes) where
@@ -78,18 +70,6 @@ module _ (c : Class) (v f : ℕ) (before after : Nodes) where
 
 pub refused_grows : (c : Class) (row : List ℕ) (before after : Nodes) (e : Full) → RowRefused c row before after e → length (entries before) ≤ length (entries after)
 refused_grows c row before after e m = omega (arith, ap length m.nodes, length_link row (entries before))
-
-pub pushed_root : (n : ℕ) (before after : Forest) → Healthy before → length (roots_of before) < length (nodes_of before) → n < 1024 → after.nodes ≡ before.nodes → roots_of after ≡ roots_of before ++ n ∷ [] → Pushed n before after
-pushed_root n before after well own small same more =
-    let long = ap length more ∙ length-append (roots_of before) (n ∷ []) in
-    let nodes : nodes_of after ≡ nodes_of before = ap (λ t. entries {L = 1024} t) same in
-    let there : place after.nodes ≡ place before.nodes = ap place same in
-    record {
-      nodes = nodes;
-      more = more;
-      healthy = record { fit = omega (arith, ap length nodes, ap (λ p. p.long) there, well.fit); few = omega (arith, ap length nodes); small = subst Small (sym more) (each_more (λ k. k < 1024) (roots_of before) n well.small small); clean = subst (λ t. Clean t zero_node) (sym same) well.clean };
-      place = there;
-    }
 
 -- there is room for a node over the row, which is more than those that wait before it
 record Fitting (from : ℕ) (before after : Nodes) (n : ℕ) : Type 0 where
@@ -115,6 +95,9 @@ fitting c from (x ∷ y ∷ rest) before after n few fit small m =
     let grown = ap length m.nodes ∙ length_add c 0 x (link (x ∷ y ∷ rest) (entries before)) in
     record { fits = fits; own = omega arith; small = omega arith }
 
+pub fewer_small : (from : ℕ) (before after : List ℕ) → after ≡ take from before → Small before → Small after
+fewer_small from before after fewer small = subst Small (sym fewer) (each_take (λ k. k < 1024) from before small)
+
 -- the row as it is lent
 pub reduced : (c : Class) (from : ℕ) (row : List ℕ) (before after : Forest) (n : ℕ) → Healthy before → from ≤ length (roots_of before) → row ≡ drop from (roots_of before) → roots_of after ≡ take from (roots_of before) → RowEnded c row before.nodes after.nodes n → after.nodes.table.ghost_name ≡ before.nodes.table.ghost_name → Reduced c from before after n
 reduced c from row before after n well within is fewer ended loan =
@@ -134,11 +117,5 @@ reduced c from row before after n well within is fewer ended loan =
       fits = fits;
       own = omega arith;
       small = f.small;
-      healthy = record { fit = omega arith; few = omega arith; small = subst Small (sym fewer) (each_take (λ k. k < 1024) from (roots_of before) well.small); clean = still_clean before.nodes after.nodes zero_node m.kept well.clean };
       place = kept_place before.nodes after.nodes m.kept loan;
     }
-
-pub unreduced : (c : Class) (from : ℕ) (row : List ℕ) (before after : Forest) (e : Full) → row ≡ drop from (roots_of before) → RowRefused c row before.nodes after.nodes e → after.nodes.table.ghost_name ≡ before.nodes.table.ghost_name → Unreduced c from before after e
-unreduced c from row before after e is refused loan =
-    let m : RowRefused c (drop from (roots_of before)) before.nodes after.nodes e = subst (λ r. RowRefused c r before.nodes after.nodes e) is refused in
-    record { full = m.full; told = m.told; place = kept_place before.nodes after.nodes m.kept loan }

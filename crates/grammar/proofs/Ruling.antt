@@ -7,6 +7,7 @@ use Rattle.grammar.proofs.Cycle.{refused_so}
 use Rattle.grammar.proofs.Leaves.{rest_shorter}
 use Rattle.grammar.proofs.Moves.{fixed_same, fits, tables_same}
 use Rattle.grammar.proofs.Rooting.{kept_place}
+use Rattle.grammar.specs.declared.depth.Depth.{Depth}
 use Rattle.grammar.specs.Bodies.{Closed}
 use Rattle.grammar.specs.Forest.{nodes_of, roots_of}
 use Rattle.grammar.specs.Reader.{text_of, tokens_of, tables_of, fixed}
@@ -158,7 +159,7 @@ module _ (m : Reader) (i n : ℕ) (small : n < 1024) (names : Filling Name 64) (
   rooted_same : fixed (record { words = m.words; names = names; kinds = m.kinds; forest = m.forest; lenders = m.lenders }) ≡ fixed m
   rooted_same = fixed_same m rooted_reader refl refl (kept_place m.names names kept loan) refl refl refl
 
-  pub rule_rooted : (r a b : Reader) (depth : ℕ) → HeadRead r a i → ArrowRead a b → Closed None depth (roots_of b.forest) no_level b m n → RuleRead r (record { words = m.words; names = names; kinds = m.kinds; forest = m.forest; lenders = m.lenders })
+  pub rule_rooted : (r a b : Reader) (depth : Depth) → HeadRead r a i → ArrowRead a b → Closed None depth (roots_of b.forest) no_level b m n → RuleRead r (record { words = m.words; names = names; kinds = m.kinds; forest = m.forest; lenders = m.lenders })
   rule_rooted r a b depth head mid closed =
       let same = rooted_same in
       record {

@@ -1,15 +1,15 @@
 -- The items of a sequence, one after another, and groups among them.
-use Rattle.std.proofs.Common.{◌≡◌, ℕ, ◌+◌, ◌<◌, ◌≤◌, List, [], ◌∷◌, ◌++◌, length, Some, sym, refl, ap, ◌∙◌, arith}
-use Rattle.std.proofs.lemmas.List.{append-nil, append_assoc}
+use Rattle.std.proofs.Common.{◌≡◌, ℕ, ◌+◌, ◌<◌, List, [], ◌∷◌, length, Some, sym, refl, ap, ◌∙◌, arith}
+use Rattle.std.proofs.lemmas.List.{append-nil}
 use Rattle.grammar.proofs.Closing.{grown_same, grown_tables}
 use Rattle.grammar.proofs.Cycle.{refused_so}
 use Rattle.grammar.proofs.Leaves.{rest_shorter}
-use Rattle.grammar.proofs.Moves.{fits, fixed_same, moved, fronted}
-use Rattle.grammar.specs.Bodies.{Closed, Unclosed, with_items, SequenceOn}
-use Rattle.grammar.specs.Forest.{nodes_of, roots_of, Pushed}
+use Rattle.grammar.proofs.Moves.{fits, moved, fronted}
+use Rattle.grammar.specs.declared.depth.Depth.{Depth}
+use Rattle.grammar.specs.Bodies.{Closed, Unclosed, SequenceOn}
+use Rattle.grammar.specs.Forest.{nodes_of, roots_of}
 use Rattle.grammar.specs.Reader.{text_of, tokens_of, tables_of, fixed, standing, NodeRead, ItemRefused}
 use Rattle.grammar.specs.Words.{bracket, piece_token, word_spot, rest_of, WordTold, Advanced}
-use Rattle.grammar.specs.Trees.{Forest}
 use Rattle.grammar.specs.declared.piece.Bracket.{Bracket as BracketOf}
 use Rattle.grammar.specs.declared.piece.Piece.{Piece}
 use Rattle.grammar.specs.declared.piece.Piece.TheVariants as piece_is
@@ -18,12 +18,12 @@ use Rattle.grammar.specs.declared.refusal.Refusal.{Refusal}
 use Rattle.grammar.specs.declared.refusal.Refusal.TheVariants as refusal_is
 use Rattle.grammar.specs.declared.words.Word.{Word}
 use Rattle.grammar.specs.declared.words.Words.{Words}
-use Rattle.notation.specs.Numbering.{Level, no_level, one_more}
+use Rattle.notation.specs.Numbering.{Level, no_level}
 use Rattle.notation.specs.Reading.{Levels}
 use Rattle.notation.specs.Tokens.{Bracket, Spot, Token, opening, arrow}
 use Rattle.notation.proofs.Steps.{opening_on, opening_too_deep, arrow_misplaced}
 
-pub no_item_yet : (depth : ℕ) (r : Reader) → SequenceOn depth r r
+pub no_item_yet : (depth : Depth) (r : Reader) → SequenceOn depth r r
 no_item_yet depth r = record {
   same = refl;
   items = [];
@@ -32,26 +32,8 @@ no_item_yet depth r = record {
   goes = λ bs deep rule l outer. ap (λ ns. standing r bs rule (record { ended = l.ended; items = ns }) outer) (sym (append-nil l.items));
 }
 
--- one more item, which waits now
-pub item_more : (depth : ℕ) (r m n : Reader) (forest : Forest) (k : ℕ) → SequenceOn depth r m → NodeRead depth m n k → Pushed k n.forest forest → SequenceOn depth r (record { words = n.words; names = n.names; kinds = n.kinds; forest = forest; lenders = n.lenders })
-item_more depth r m n forest k q h p =
-    let now : Reader = record { words = n.words; names = n.names; kinds = n.kinds; forest = forest; lenders = n.lenders } in
-    let same : fixed now ≡ fixed n = fixed_same n now refl refl refl refl p.place refl in
-    let tables : tables_of n ≡ tables_of now = ap (λ ns. record { names = (tables_of n).names; kinds = (tables_of n).kinds; nodes = ns }) (sym p.nodes) in
-    record {
-      same = same ∙ h.same ∙ q.same;
-      items = q.items ++ k ∷ [];
-      more = p.more ∙ ap (λ l. l ++ k ∷ []) (h.same_roots ∙ q.more) ∙ append_assoc (roots_of r.forest) q.items (k ∷ []);
-      no_longer = omega (arith, h.shorter, q.no_longer);
-      goes =
-          λ bs deep rule l outer.
-          q.goes bs deep rule l outer
-          ∙ h.goes bs deep rule (with_items l q.items) outer
-          ∙ moved bs rule outer n now (tables_of n) (tokens_of n) (one_more (with_items l q.items) k) (with_items l (q.items ++ k ∷ [])) same tables refl (ap (λ ns. record { ended = l.ended; items = ns }) (append_assoc l.items q.items (k ∷ [])));
-    }
-
 -- a token that is no item and no mark at its place
-module _ (depth : ℕ) (r : Reader) (x : Word) (first : WordTold r.words x) where
+module _ (depth : Depth) (r : Reader) (x : Word) (first : WordTold r.words x) where
   abbrev spot : Spot
   spot = word_spot (text_of r) x
 
@@ -70,7 +52,7 @@ module _ (depth : ℕ) (r : Reader) (x : Word) (first : WordTold r.words x) wher
   }
 
   module _ (b : BracketOf) (e : x.piece ≡ piece_is.Opening b) where
-    pub group_too_deep : depth ≡ 32 → ItemRefused depth r r (refusal_is.TooDeep x.place)
+    pub group_too_deep : depth.brackets ≡ 32 → ItemRefused depth r r (refusal_is.TooDeep x.place)
     group_too_deep full = record {
       same = refl;
       told =
@@ -78,7 +60,7 @@ module _ (depth : ℕ) (r : Reader) (x : Word) (first : WordTold r.words x) wher
           fronted bs rule outer r (opening (bracket b) spot) rest l (first_is (piece_is.Opening b) e) ∙ opening_too_deep (fixed r).limits rest (fixed r).ending bs (record { tables = tables_of r; rule = rule; level = l; outer = outer }) (bracket b) spot (deep ∙ full);
     }
 
-    module _ (inside : ℕ) (deeper : inside ≡ depth + 1) (few : inside ≤ 32) (after : Words) (a : Advanced r.words after) where
+    module _ (inside : Depth) (deeper : inside.brackets ≡ depth.brackets + 1) (after : Words) (a : Advanced r.words after) where
       abbrev within : Reader
       within = record { words = after; names = r.names; kinds = r.kinds; forest = r.forest; lenders = r.lenders }
 
@@ -86,7 +68,7 @@ module _ (depth : ℕ) (r : Reader) (x : Word) (first : WordTold r.words x) wher
       within_shorter = omega (arith, ap length a.rest, rest_shorter (tokens_of r) (opening (bracket b) spot) (first_is (piece_is.Opening b) e))
 
       -- past the opening bracket
-      to_within : (bs : List Bracket) → length bs ≡ depth → (rule : ℕ) (l : Level) (outer : Levels bs) → standing r bs rule l outer ≡ standing (record { words = after; names = r.names; kinds = r.kinds; forest = r.forest; lenders = r.lenders }) (bracket b ∷ bs) rule no_level (l, outer)
+      to_within : (bs : List Bracket) → length bs ≡ depth.brackets → (rule : ℕ) (l : Level) (outer : Levels bs) → standing r bs rule l outer ≡ standing (record { words = after; names = r.names; kinds = r.kinds; forest = r.forest; lenders = r.lenders }) (bracket b ∷ bs) rule no_level (l, outer)
       to_within bs deep rule l outer =
           fronted bs rule outer r (opening (bracket b) spot) rest l (first_is (piece_is.Opening b) e)
           ∙ opening_on (fixed r).limits rest (fixed r).ending bs (record { tables = tables_of r; rule = rule; level = l; outer = outer }) (bracket b) spot (omega arith) (fits r)

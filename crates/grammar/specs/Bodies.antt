@@ -4,6 +4,7 @@ use Rattle.grammar.specs.Forest.{nodes_of, roots_of}
 use Rattle.grammar.specs.Reader.{tokens_of, tables_of, fixed, standing, standing_ready, Ends}
 use Rattle.grammar.specs.Refusals.{RefusedAs}
 use Rattle.grammar.specs.Words.{bracket, tokens, rest_of, WordTold}
+use Rattle.grammar.specs.declared.depth.Depth.{Depth}
 use Rattle.grammar.specs.declared.opened.Opened.{Opened}
 use Rattle.grammar.specs.declared.piece.Bracket.{Bracket as BracketOf}
 use Rattle.grammar.specs.declared.piece.Piece.{Piece}
@@ -49,23 +50,23 @@ pub record BranchRefused (begin : ℕ) (before after : Reader) (e : Refusal) : T
       → RefusedAs e (standing before bs rule (record { ended = ended; items = drop begin (roots_of before.forest) }) outer)
 
 -- a rule's branches stand in no bracket
-abbrev pub FitsDepth : Option BracketOf → ℕ → Type 0
-FitsDepth None depth = depth ≡ 0
+abbrev pub FitsDepth : Option BracketOf → Depth → Type 0
+FitsDepth None depth = depth.brackets ≡ 0
 FitsDepth (Some b) depth = Unit {0}
 
 -- from a level within branches to what their mark leads to
-abbrev pub EndedGoes : Option BracketOf → ℕ → Reader → Reader → Level → ℕ → Type 0
+abbrev pub EndedGoes : Option BracketOf → Depth → Reader → Reader → Level → ℕ → Type 0
 EndedGoes None depth before after l n = (rule : ℕ) → standing before [] rule l tt ≡ standing_ready after (rule_ended rule (record { tables = tables_of after; at = n }))
 EndedGoes (Some b) depth before after l n =
-    (bs : List Bracket) → suc (length bs) ≡ depth → (rule : ℕ) (around : Level) (outer : Levels bs)
+    (bs : List Bracket) → suc (length bs) ≡ depth.brackets → (rule : ℕ) (around : Level) (outer : Levels bs)
     → standing before (bracket b ∷ bs) rule l (around, outer) ≡ standing after bs rule (one_more around n) outer
 
-abbrev pub EndedRefused : Option BracketOf → ℕ → Reader → Level → Refusal → Type 0
+abbrev pub EndedRefused : Option BracketOf → Depth → Reader → Level → Refusal → Type 0
 EndedRefused None depth before l e = (rule : ℕ) → RefusedAs e (standing before [] rule l tt)
 EndedRefused (Some b) depth before l e =
-    (bs : List Bracket) → suc (length bs) ≡ depth → (rule : ℕ) (around : Level) (outer : Levels bs) → RefusedAs e (standing before (bracket b ∷ bs) rule l (around, outer))
+    (bs : List Bracket) → suc (length bs) ≡ depth.brackets → (rule : ℕ) (around : Level) (outer : Levels bs) → RefusedAs e (standing before (bracket b ∷ bs) rule l (around, outer))
 
-pub record Closed (c : Option BracketOf) (depth : ℕ) (left : List ℕ) (l : Level) (before after : Reader) (n : ℕ) : Type 0 where
+pub record Closed (c : Option BracketOf) (depth : Depth) (left : List ℕ) (l : Level) (before after : Reader) (n : ℕ) : Type 0 where
   pub same : fixed after ≡ fixed before
   pub roots_left : roots_of after.forest ≡ left
   pub own : length (roots_of after.forest) < length (nodes_of after.forest)
@@ -73,7 +74,7 @@ pub record Closed (c : Option BracketOf) (depth : ℕ) (left : List ℕ) (l : Le
   pub shorter : length (tokens_of after) < length (tokens_of before)
   pub goes : EndedGoes c depth before after l n
 
-pub record Unclosed (c : Option BracketOf) (depth : ℕ) (l : Level) (before after : Reader) (e : Refusal) : Type 0 where
+pub record Unclosed (c : Option BracketOf) (depth : Depth) (l : Level) (before after : Reader) (e : Refusal) : Type 0 where
   pub same : fixed after ≡ fixed before
   pub told : EndedRefused c depth before l e
 
@@ -81,15 +82,15 @@ pub record Unclosed (c : Option BracketOf) (depth : ℕ) (l : Level) (before aft
 abbrev pub with_items : Level → List ℕ → Level
 with_items l ns = record { ended = l.ended; items = l.items ++ ns }
 
-pub record SequenceOn (depth : ℕ) (before after : Reader) : Type 0 where
+pub record SequenceOn (depth : Depth) (before after : Reader) : Type 0 where
   pub same : fixed after ≡ fixed before
   pub items : List ℕ
   pub more : roots_of after.forest ≡ roots_of before.forest ++ items
   pub no_longer : length (tokens_of after) ≤ length (tokens_of before)
-  pub goes : (bs : List Bracket) → length bs ≡ depth → (rule : ℕ) (l : Level) (outer : Levels bs) → standing before bs rule l outer ≡ standing after bs rule (with_items l items) outer
+  pub goes : (bs : List Bracket) → length bs ≡ depth.brackets → (rule : ℕ) (l : Level) (outer : Levels bs) → standing before bs rule l outer ≡ standing after bs rule (with_items l items) outer
 
 -- items up to a mark that ends the sequence
-pub record SequenceRead (depth : ℕ) (before after : Reader) (x : Word) : Type 0 where
+pub record SequenceRead (depth : Depth) (before after : Reader) (x : Word) : Type 0 where
   pub on : SequenceOn depth before after
   pub first : WordTold after.words x
   pub ends : Ends x.piece

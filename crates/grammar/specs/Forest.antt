@@ -4,10 +4,9 @@ use Rattle.grammar.specs.Trees.{Forest}
 use Rattle.grammar.specs.declared.opened.Opened.{Opened}
 use Rattle.grammar.specs.declared.piece.Bracket.{Bracket}
 use Rattle.grammar.specs.declared.piece.Bracket.TheVariants as bracket_is
-use Rattle.notation.specs.Statements.{Each}
 use Rattle.notation.specs.Tables.{add}
 use Rattle.tables.specs.Filling.{entries, room}
-use Rattle.tables.specs.Nodes.{zero_node, Made, over_row}
+use Rattle.tables.specs.Nodes.{Made, over_row}
 use Rattle.tables.specs.declared.filling.Filling.{Filling}
 use Rattle.tables.specs.declared.full.Full.{Full}
 use Rattle.tree.specs.declared.class.Class.{Class}
@@ -36,35 +35,9 @@ place t = record { long = length t.table.now; whose = t.table.ghost_name }
 abbrev pub Clean : {E : Type 0} {L : ℕ} → Filling E L → E → Type 0
 Clean t zero = drop t.count t.table.now ≡ replicate (length t.table.now - t.count) zero
 
--- what holds between two calls: each root that waits is a node of its own, and unused places are 0
-pub record Healthy (f : Forest) : Type 0 where
-  pub fit : length (nodes_of f) ≤ limit_of f
-  pub few : length (roots_of f) ≤ length (nodes_of f)
-  pub small : Each (λ n. n < 1024) (roots_of f)
-  pub clean : Clean f.nodes zero_node
-
 -- the table is the same, and as long as it was
 abbrev pub SamePlace : Forest → Forest → Type 0
 SamePlace before after = place after.nodes ≡ place before.nodes
-
-pub record MadeOne (c : Class) (v f : ℕ) (before after : Forest) (n : ℕ) : Type 0 where
-  pub number : n ≡ length (nodes_of before)
-  pub nodes : nodes_of after ≡ add c v f (nodes_of before)
-  pub same_roots : roots_of after ≡ roots_of before
-  pub room : length (nodes_of before) < limit_of before
-  pub healthy : Healthy after
-  pub place : SamePlace before after
-
-pub record MadeNone (before after : Forest) (e : Full) : Type 0 where
-  pub full : limit_of before ≤ length (nodes_of before)
-  pub told : e.limit ≡ limit_of before
-  pub place : SamePlace before after
-
-pub record Pushed (n : ℕ) (before after : Forest) : Type 0 where
-  pub nodes : nodes_of after ≡ nodes_of before
-  pub more : roots_of after ≡ roots_of before ++ n ∷ []
-  pub healthy : Healthy after
-  pub place : SamePlace before after
 
 -- the roots from an index on have a parent, or are one root that stays so
 pub record Reduced (c : Class) (from : ℕ) (before after : Forest) (n : ℕ) : Type 0 where
@@ -74,7 +47,6 @@ pub record Reduced (c : Class) (from : ℕ) (before after : Forest) (n : ℕ) : 
   pub fits : length (nodes_of after) ≤ limit_of before
   pub own : length (roots_of after) < length (nodes_of after)
   pub small : n < 1024
-  pub healthy : Healthy after
   pub place : SamePlace before after
 
 pub record Unreduced (c : Class) (from : ℕ) (before after : Forest) (e : Full) : Type 0 where
@@ -99,7 +71,6 @@ pub record BranchEnded (begin : ℕ) (before after : Forest) : Type 0 where
   pub nodes : nodes_of after ≡ (over_row class_is.Chain (drop begin (roots_of before)) (nodes_of before)).nodes
   pub more : roots_of after ≡ take begin (roots_of before) ++ (over_row class_is.Chain (drop begin (roots_of before)) (nodes_of before)).at ∷ []
   pub fits : length (nodes_of after) ≤ limit_of before
-  pub healthy : Healthy after
   pub place : SamePlace before after
 
 pub record BranchFull (begin : ℕ) (before after : Forest) (e : Full) : Type 0 where
@@ -117,7 +88,6 @@ pub record Bracketed (c : Option Bracket) (inside : ℕ) (before after : Forest)
   pub fits : length (nodes_of after) ≤ limit_of before
   pub own : length (roots_of after) < length (nodes_of after)
   pub small : n < 1024
-  pub healthy : Healthy after
   pub place : SamePlace before after
 
 pub record Unbracketed (c : Option Bracket) (inside : ℕ) (before after : Forest) (e : Full) : Type 0 where
@@ -136,10 +106,22 @@ pub record Finished (o : Opened) (before after : Forest) (n : ℕ) : Type 0 wher
   pub fits : length (nodes_of after) ≤ limit_of before
   pub own : length (roots_of after) < length (nodes_of after)
   pub small : n < 1024
-  pub healthy : Healthy after
   pub place : SamePlace before after
 
 pub record Unfinished (o : Opened) (before after : Forest) (e : Full) : Type 0 where
   pub full : limit_of before < length (grouped o before).nodes
+  pub told : e.limit ≡ limit_of before
+  pub place : SamePlace before after
+
+-- a node has been made, or there was no room for it
+pub record MadeOne (c : Class) (v f : ℕ) (before after : Forest) (n : ℕ) : Type 0 where
+  pub number : n ≡ length (nodes_of before)
+  pub nodes : nodes_of after ≡ add c v f (nodes_of before)
+  pub same_roots : roots_of after ≡ roots_of before
+  pub room : length (nodes_of before) < limit_of before
+  pub place : SamePlace before after
+
+pub record MadeNone (before after : Forest) (e : Full) : Type 0 where
+  pub full : limit_of before ≤ length (nodes_of before)
   pub told : e.limit ≡ limit_of before
   pub place : SamePlace before after

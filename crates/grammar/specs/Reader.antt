@@ -4,6 +4,7 @@ use Rattle.grammar.specs.Forest.{nodes_of, roots_of, limit_of, Place, place}
 use Rattle.grammar.specs.Refusals.{RefusedAs}
 use Rattle.grammar.specs.Words as words
 use Rattle.grammar.specs.Words.{word_spot, rest_of, WordTold}
+use Rattle.grammar.specs.declared.depth.Depth.{Depth}
 use Rattle.grammar.specs.declared.piece.Piece.{Piece}
 use Rattle.grammar.specs.declared.piece.Piece.TheVariants as piece_is
 use Rattle.grammar.specs.declared.items.Item.{Item}
@@ -87,13 +88,13 @@ Ends (piece_is.Opening b) = ⊥
 Ends (piece_is.Closing b) = Unit {0}
 
 -- one part of a sequence is read, and its node is one more of its items
-pub record NodeRead (depth : ℕ) (before after : Reader) (n : ℕ) : Type 0 where
+pub record NodeRead (depth : Depth) (before after : Reader) (n : ℕ) : Type 0 where
   pub same : fixed after ≡ fixed before
   pub same_roots : roots_of after.forest ≡ roots_of before.forest
   pub own : length (roots_of after.forest) < length (nodes_of after.forest)
   pub small : n < 1024
   pub shorter : length (tokens_of after) < length (tokens_of before)
-  pub goes : (bs : List Bracket) → length bs ≡ depth → (rule : ℕ) (l : Level) (outer : Levels bs) → standing before bs rule l outer ≡ standing after bs rule (one_more l n) outer
+  pub goes : (bs : List Bracket) → length bs ≡ depth.brackets → (rule : ℕ) (l : Level) (outer : Levels bs) → standing before bs rule l outer ≡ standing after bs rule (one_more l n) outer
 
 -- a mark stands first, and nothing has changed
 pub record MarkMet (before after : Reader) (x : Word) : Type 0 where
@@ -101,11 +102,11 @@ pub record MarkMet (before after : Reader) (x : Word) : Type 0 where
   pub first : WordTold before.words x
   pub ends : Ends x.piece
 
-abbrev pub ItemTold : ℕ → Reader → Reader → Item → Type 0
+abbrev pub ItemTold : Depth → Reader → Reader → Item → Type 0
 ItemTold depth before after (item_is.Node n) = NodeRead depth before after n
 ItemTold depth before after (item_is.Mark x) = MarkMet before after x
 
 -- the reading is refused so, whatever stands around
-pub record ItemRefused (depth : ℕ) (before after : Reader) (e : Refusal) : Type 0 where
+pub record ItemRefused (depth : Depth) (before after : Reader) (e : Refusal) : Type 0 where
   pub same : fixed after ≡ fixed before
-  pub told : (bs : List Bracket) → length bs ≡ depth → (rule : ℕ) (l : Level) (outer : Levels bs) → RefusedAs e (standing before bs rule l outer)
+  pub told : (bs : List Bracket) → length bs ≡ depth.brackets → (rule : ℕ) (l : Level) (outer : Levels bs) → RefusedAs e (standing before bs rule l outer)

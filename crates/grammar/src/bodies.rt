@@ -1,7 +1,8 @@
 // The bodies of rules: branches, sequences and items.
-ghost use Rattle.std.specs.Prelude.{◌≡◌, ℕ, ◌≤◌, length, take, MatchResult, ◌≢◌};
+ghost use Rattle.std.specs.Prelude.{◌≡◌, ◌≤◌, length, take, MatchResult, ◌≢◌};
 ghost use Rattle.notation.specs.Numbering.{no_level};
 ghost use Rattle.notation.specs.Tokens.{bar};
+ghost use Rattle.grammar.specs.declared.depth.Depth.{Depth};
 ghost use Rattle.grammar.specs.Parts.{reader, roots};
 ghost use Rattle.grammar.specs.Words.{WordTold};
 ghost use Rattle.grammar.specs.declared.piece.Piece.TheVariants.{Bar};
@@ -37,7 +38,7 @@ impl Parser<'_, '_> {
     // At the mark that ends branches.
     fn close(&mut self, opened: Opened) -> Result<u16, Refusal>
         requires { MarkFirst self.old.words.now (closing_token opened.closing) × (opened.begin ≤ length (roots self.old)) }
-        ensures { (depth : ℕ) → depth ≤ 32 → MatchResult result (Closed opened.closing depth (take opened.from (roots self.old)) (level_at opened (roots self.old)) (reader self.old) (reader self.new)) (Unclosed opened.closing depth (level_at opened (roots self.old)) (reader self.old) (reader self.new)) }
+        ensures { (depth : Depth) → MatchResult result (Closed opened.closing depth (take opened.from (roots self.old)) (level_at opened (roots self.old)) (reader self.old) (reader self.new)) (Unclosed opened.closing depth (level_at opened (roots self.old)) (reader self.old) (reader self.new)) }
     {
         let node = self.finish(opened)?;
         self.words.advance();
@@ -47,7 +48,7 @@ impl Parser<'_, '_> {
     // At a mark that ends a sequence and is no bar: it ends the branches, or cannot stand here.
     fn end(&mut self, opened: Opened, mark: Word) -> Result<u16, Refusal>
         requires { WordTold self.old.words.now mark × Ends mark.piece × (mark.piece ≢ Bar) × (opened.begin ≤ length (roots self.old)) }
-        ensures { (depth : ℕ) → depth ≤ 32 → MatchResult result (Closed opened.closing depth (take opened.from (roots self.old)) (level_at opened (roots self.old)) (reader self.old) (reader self.new)) (Unclosed opened.closing depth (level_at opened (roots self.old)) (reader self.old) (reader self.new)) }
+        ensures { (depth : Depth) → MatchResult result (Closed opened.closing depth (take opened.from (roots self.old)) (level_at opened (roots self.old)) (reader self.old) (reader self.new)) (Unclosed opened.closing depth (level_at opened (roots self.old)) (reader self.old) (reader self.new)) }
     {
         if mark.piece != closing_mark(opened.closing) {
             return Err(Refusal::Misplaced(mark.place));
@@ -58,7 +59,7 @@ impl Parser<'_, '_> {
     // One part of a sequence, or the mark that ends it, which stays.
     #[cycle(branches_item_sequence)]
     fn item(&mut self, depth: Depth) -> Result<Item, Refusal>
-        ensures { MatchResult result (ItemTold depth.brackets (reader self.old) (reader self.new)) (ItemRefused depth.brackets (reader self.old) (reader self.new)) }
+        ensures { MatchResult result (ItemTold depth (reader self.old) (reader self.new)) (ItemRefused depth (reader self.old) (reader self.new)) }
     {
         let word = self.words.word()?;
         match word.piece {
@@ -79,7 +80,7 @@ impl Parser<'_, '_> {
     // Items up to a mark that ends the sequence, which stays.
     #[cycle(branches_item_sequence)]
     fn sequence(&mut self, depth: Depth) -> Result<Word, Refusal>
-        ensures { MatchResult result (SequenceRead depth.brackets (reader self.old) (reader self.new)) (ItemRefused depth.brackets (reader self.old) (reader self.new)) }
+        ensures { MatchResult result (SequenceRead depth (reader self.old) (reader self.new)) (ItemRefused depth (reader self.old) (reader self.new)) }
     {
         loop {
             match self.item(depth)? {
@@ -96,8 +97,8 @@ impl Parser<'_, '_> {
         closing: Option<Bracket>,
         depth: Depth,
     ) -> Result<u16, Refusal>
-        requires { FitsDepth closing depth.brackets }
-        ensures { MatchResult result (Closed closing depth.brackets (roots self.old) no_level (reader self.old) (reader self.new)) (Unclosed closing depth.brackets no_level (reader self.old) (reader self.new)) }
+        requires { FitsDepth closing depth }
+        ensures { MatchResult result (Closed closing depth (roots self.old) no_level (reader self.old) (reader self.new)) (Unclosed closing depth no_level (reader self.old) (reader self.new)) }
     {
         let from = self.waiting.len();
         loop {

@@ -1,5 +1,6 @@
 // The items of sequences.
-ghost use Rattle.std.specs.Prelude.{◌≡◌, ℕ, ◌≤◌, MatchResult};
+ghost use Rattle.std.specs.Prelude.{MatchResult};
+ghost use Rattle.grammar.specs.declared.depth.Depth.{Depth};
 ghost use Rattle.grammar.specs.Parts.{reader};
 ghost use Rattle.grammar.specs.Leaf.{LeafRead, LeafRefused};
 ghost use Rattle.grammar.specs.Reader.{NamedFirst, TerminalFirst, SpellingFirst, ItemTold, ItemRefused};
@@ -33,7 +34,7 @@ impl Parser<'_, '_> {
     // A name in a sequence.
     pub(crate) fn name_item(&mut self, word: Word) -> Result<Item, Refusal>
         requires { NamedFirst self.old.words.now word }
-        ensures { (depth : ℕ) → depth ≤ 32 → MatchResult result (ItemTold depth (reader self.old) (reader self.new)) (ItemRefused depth (reader self.old) (reader self.new)) }
+        ensures { (depth : Depth) → MatchResult result (ItemTold depth (reader self.old) (reader self.new)) (ItemRefused depth (reader self.old) (reader self.new)) }
     {
         let name = self
             .names
@@ -45,7 +46,7 @@ impl Parser<'_, '_> {
     // A class word or a quoted spelling in a sequence; kinds are numbered from 1.
     pub(crate) fn token_item(&mut self, word: Word) -> Result<Item, Refusal>
         requires { TerminalFirst self.old.words.now word }
-        ensures { (depth : ℕ) → depth ≤ 32 → MatchResult result (ItemTold depth (reader self.old) (reader self.new)) (ItemRefused depth (reader self.old) (reader self.new)) }
+        ensures { (depth : Depth) → MatchResult result (ItemTold depth (reader self.old) (reader self.new)) (ItemRefused depth (reader self.old) (reader self.new)) }
     {
         let kind = self
             .kinds
@@ -57,7 +58,7 @@ impl Parser<'_, '_> {
     // A quoted spelling in a sequence.
     pub(crate) fn spelling_item(&mut self, word: Word) -> Result<Item, Refusal>
         requires { SpellingFirst self.old.words.now word }
-        ensures { (depth : ℕ) → depth ≤ 32 → MatchResult result (ItemTold depth (reader self.old) (reader self.new)) (ItemRefused depth (reader self.old) (reader self.new)) }
+        ensures { (depth : Depth) → MatchResult result (ItemTold depth (reader self.old) (reader self.new)) (ItemRefused depth (reader self.old) (reader self.new)) }
     {
         if !may_be_spelled(clip(self.words.text, word.place, word.length)) {
             return Err(Refusal::Misspelt(word.place));

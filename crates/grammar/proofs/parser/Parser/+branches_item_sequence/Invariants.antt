@@ -16,13 +16,13 @@ abbrev pub decreases-sequence : goal.decreases-sequence
 decreases-sequence l = 3 * length (tokens l.self.now.words.now) + 1
 
 abbrev pub invariant-branches-loop-mark : goal.invariant-branches-loop-mark
-invariant-branches-loop-mark l = BranchesOn l.depth.brackets (reader l.initial.self) (reader l.self)
+invariant-branches-loop-mark l = BranchesOn l.depth (reader l.initial.self) (reader l.self)
 
 abbrev pub decreases-branches-loop-mark : goal.decreases-branches-loop-mark
 decreases-branches-loop-mark l = length (tokens l.self.words.now)
 
 abbrev pub invariant-sequence-loop-node : goal.invariant-sequence-loop-node
-invariant-sequence-loop-node l = SequenceOn l.depth.brackets (reader l.initial.self) (reader l.self)
+invariant-sequence-loop-node l = SequenceOn l.depth (reader l.initial.self) (reader l.self)
 
 abbrev pub decreases-sequence-loop-node : goal.decreases-sequence-loop-node
 decreases-sequence-loop-node l = length (tokens l.self.words.now)
