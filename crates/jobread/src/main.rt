@@ -9,9 +9,10 @@ use std::alloc::Global;
 use std::io::{ErrorKind, Read, Write};
 use std::rt::Files;
 use std::{fs, io};
+use tokens::LIMIT;
 
 // One byte more than a text may have, so that a longer one is known for it.
-const ROOM: u64 = 32769;
+const ROOM: u64 = LIMIT as u64 + 1;
 
 // The front of what a reader gives.
 fn front<R: Read + Drop>(alloc: Global, reader: R) -> io::Result<Vec<u8>>

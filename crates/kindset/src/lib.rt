@@ -4,10 +4,11 @@
 ghost use Rattle.std.specs.Prelude.{◌≡◌, ℕ, Bool, false, ◌&&◌, ◌||◌, ◌==◌, nat_lt};
 ghost use Rattle.kindset.specs.Member.{member, LowestShared};
 
-// The mark that stands for yielding no kind.
+// The mark that stands for yielding no kind: a number, so that a set holds it beside the kinds.
 pub const EMPTY: u8 = 127;
 
-// A set of kinds. Its bit k says whether kind k is a member; no number above 127 ever is.
+// A set of kinds. Its bit k says whether kind k is a member; no number above 127 ever is. All 128
+// bits are one number, so that a union or a lookup is one operation.
 #[derive(Clone, Copy, Debug, PartialEq, Eq)]
 pub struct KindSet {
     bits: u128,

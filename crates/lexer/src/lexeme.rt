@@ -7,7 +7,7 @@ use crate::bytes::{ByteClass, Run, class_of, is_sign, run_length};
 use crate::vocabulary::{Sought, Vocabulary};
 use token::FaultCode;
 
-// The kinds that no grammar gives.
+// The kinds that no grammar gives: numbers above those that one can give.
 pub const BLANK: u8 = 121;
 
 pub const COMMENT: u8 = 122;
@@ -15,7 +15,7 @@ pub const COMMENT: u8 = 122;
 // How long a token may be, but for blanks and comments.
 const LONGEST: usize = 255;
 
-// What stands at the front of a text.
+// What stands at the front of a text: its kind, by number as in a token, and its length.
 #[derive(Clone, Copy, Debug, PartialEq, Eq)]
 pub struct Lexeme {
     pub kind: u8,

@@ -9,7 +9,8 @@ ghost use Rattle.lexer.specs.Vocabulary.{quoted, written, reads, spelled, lexico
 // How many kinds a grammar can have.
 pub const KINDS: usize = 120;
 
-// Where a grammar's text first spells a kind: a class word, or a spelling with its quotes.
+// Where a grammar's text first spells a kind: a class word, or a spelling with its quotes. A rule
+// of the project: the lent tables are of numbers, so that it is a place and a length, and no slice.
 #[derive(Clone, Copy, Debug, Default, PartialEq, Eq)]
 pub struct Spelling {
     pub place: usize,

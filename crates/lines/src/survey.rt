@@ -6,7 +6,7 @@ ghost use Rattle.token.specs.Refusals.{IsTooLong};
 use grammar::vocabulary;
 use tokens::{Ending, Next, TokenSource, TooLong, layered};
 
-// The kinds of words and of strings.
+// The kinds of words and of strings: numbers, by their places in the vocabulary.
 const WORD: u8 = 1;
 
 const STRING: u8 = 2;

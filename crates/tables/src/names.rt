@@ -22,6 +22,8 @@ impl Names<'_> {
     pub fn has_rule(&self, name: usize) -> bool
         ensures { result ≡ ruled name (entries self.now) }
     {
+        // By index: where a closure tests what `get` finds, the check does not find the proof
+        // (docs/DECISIONS.md, "Forms that the prover does not cover").
         name < self.count && self.table[name].root != NONE
     }
 

@@ -18,6 +18,7 @@ pub trait Spotted {
         ensures { result ≡ spans self.now };
 }
 
+// Both impls are written out: each of their lines is a field of the record.
 impl Spotted for Name {
     ghost begins = { λ n. n.place };
 
@@ -46,8 +47,8 @@ impl Spotted for Spelling {
     }
 }
 
-// A part of the text, as far as the text goes. Place and length are fields of several records,
-// each with others beside them.
+// A part of the text, as far as the text goes. It takes two numbers, since the records
+// of the lent tables have place and length as fields, by a rule of the project.
 pub fn clip(text: &[u8], place: usize, length: usize) -> &[u8]
     ensures { result.now ≡ cut text.now place length }
 {

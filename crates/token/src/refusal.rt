@@ -2,7 +2,8 @@
 ghost use Rattle.std.specs.Prelude.{◌≡◌, List, ℕ, slice_index};
 ghost use Rattle.token.specs.Refusals.{too_long, nothing_left};
 
-// A refusal: its number and then its values in order are its whole meaning.
+// A refusal: its number and then its values in order are its whole meaning. A rule of the
+// project: whatever type a refusal has, its number and values are what a customer is told.
 pub trait Numbered {
     ghost numbered: { Self → List ℕ };
 

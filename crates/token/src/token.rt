@@ -2,7 +2,8 @@
 ghost use Rattle.std.specs.Prelude.{◌≡◌};
 ghost use Rattle.token.specs.Faults.{fault_number};
 
-// A token: its kind from 1 to 122, and where its bytes stand.
+// A token: its kind from 1 to 122, and where its bytes stand. Kinds are no enum: a grammar gives
+// their numbers, and stored tokens are read as numbers.
 #[derive(Clone, Copy, Debug, PartialEq, Eq)]
 pub struct Token {
     pub kind: u8,
