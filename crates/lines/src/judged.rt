@@ -1,47 +1,64 @@
 // The line that says how a grammar's text is judged.
-ghost use Rattle.std.specs.Prelude.{◌≡◌, ◌++◌, IfOk, OnOk};
+ghost use Rattle.std.specs.Prelude.{◌≡◌, Some, IfOk};
 ghost use Rattle.lines.specs.GrammarLines.{told_text, sizes_text, grammar_line};
 ghost use Rattle.grammar.specs.Refusals.{numbered};
 
-use crate::output::Output;
+use crate::refused::Refused;
 use grammar::{Counts, Refusal, judge};
 use lexer::Spelling;
 use std::alloc::{AllocError, Global};
+use std::fmt;
+use std::io::Write;
 use tables::{KINDS, NAMES, NODES, Name};
 use tree::Node;
 
-impl Output {
-    // Why a grammar is refused: the refusal, and its code if it has one.
-    fn told(&mut self, refusal: Refusal) -> Result<(), AllocError>
-        ensures { OnOk result (self.new ≡ self.old ++ told_text (numbered refusal)) }
-    {
-        self.refused(&refusal)?;
-        if let Some(code) = refusal.code() {
-            self.labelled(b" code ", usize::from(code))?;
+// Why a grammar is refused, printed as the refusal, and its code if it has one.
+#[derive(Drop)]
+struct Told(Refusal);
+
+impl fmt::Display for Told {
+    ghost output = { λ t. Some (told_text (numbered t.0)) };
+
+    fn fmt<W: fmt::Write>(&self, f: &mut fmt::Formatter<W>) -> fmt::Result {
+        write!(f, "{}", Refused(self.0))?;
+        if let Some(code) = self.0.code() {
+            write!(f, " code {code}")?;
         }
         Ok(())
     }
+}
 
-    // How much a grammar has.
-    fn sizes(&mut self, counts: Counts) -> Result<(), AllocError>
-        ensures { OnOk result (self.new ≡ self.old ++ sizes_text counts.names counts.nodes counts.kinds) }
-    {
-        self.put(b"grammar ")?;
-        self.counted(counts.names, b" rules ")?;
-        self.counted(counts.nodes, b" nodes ")?;
-        self.counted(counts.kinds, b" kinds")
+// How much a grammar has.
+#[derive(Drop)]
+struct Sizes(Counts);
+
+impl fmt::Display for Sizes {
+    ghost output = { λ s. Some (sizes_text s.0.names s.0.nodes s.0.kinds) };
+
+    fn fmt<W: fmt::Write>(&self, f: &mut fmt::Formatter<W>) -> fmt::Result {
+        let Counts {
+            names,
+            nodes,
+            kinds,
+        } = self.0;
+        write!(f, "grammar {names} rules {nodes} nodes {kinds} kinds")
     }
+}
 
-    // The line of a grammar's text: how much it has, or why it is refused.
-    fn judged(&mut self, text: &[u8]) -> Result<(), AllocError>
-        ensures { OnOk result (self.new ≡ self.old ++ grammar_line text.now) }
-    {
+// A grammar's text, printed as how much it has, or why it is refused.
+#[derive(Drop)]
+struct Judged<'a>(&'a [u8]);
+
+impl fmt::Display for Judged<'_> {
+    ghost output = { λ t. Some (grammar_line t.0.now) };
+
+    fn fmt<W: fmt::Write>(&self, f: &mut fmt::Formatter<W>) -> fmt::Result {
         let mut names = [Name::default(); NAMES];
         let mut kinds = [Spelling::default(); KINDS];
         let mut nodes = [Node::default(); NODES];
-        match judge(text, &mut names, &mut kinds, &mut nodes) {
-            Ok(counts) => self.sizes(counts),
-            Err(refusal) => self.told(refusal),
+        match judge(self.0, &mut names, &mut kinds, &mut nodes) {
+            Ok(counts) => write!(f, "{}", Sizes(counts)),
+            Err(refusal) => write!(f, "{}", Told(refusal)),
         }
     }
 }
@@ -50,7 +67,8 @@ impl Output {
 pub fn judged_line(alloc: Global, grammar: &[u8]) -> Result<Vec<u8>, AllocError>
     ensures { IfOk result (λ out. out.items ≡ grammar_line grammar.now) }
 {
-    let mut out = Output::new(alloc);
-    out.judged(grammar)?;
-    Ok(out.into_bytes())
+    let mut out = Vec::new(alloc);
+    // A vector refuses what is written to it only for want of memory.
+    write!(out, "{}", Judged(grammar)).map_err(|_| AllocError)?;
+    Ok(out)
 }

@@ -2,8 +2,8 @@
 #![tactic(auto)]
 
 mod judged;
-mod output;
 mod printed;
+mod refused;
 mod survey;
 
 pub use judged::judged_line;

@@ -1,58 +1,62 @@
 // All that jobread prints of a grammar's text and a job's.
-ghost use Rattle.std.specs.Prelude.{◌≡◌, ◌++◌, IfOk, OnOk};
-ghost use Rattle.lines.specs.Lines.{fault_text, ending_text, text_of_survey, grammar_text, job_text, printed};
+ghost use Rattle.std.specs.Prelude.{◌≡◌, Some, IfOk};
+ghost use Rattle.lines.specs.Lines.{text_of_survey, grammar_text, job_text, printed};
 
-use crate::output::Output;
+use crate::refused::Refused;
 use crate::survey::{Survey, survey_text};
 use std::alloc::{AllocError, Global};
-use tokens::{Ending, Fault, Numbered, check_length};
+use std::fmt;
+use std::io::Write;
+use tokens::{Ending, check_length};
 
-impl Output {
-    fn fault(&mut self, fault: Fault) -> Result<(), AllocError>
-        ensures { OnOk result (self.new ≡ self.old ++ fault_text fault) }
-    {
-        self.labelled(b"fault ", usize::from(fault.code.number()))?;
-        self.labelled(b" at ", fault.place)
-    }
+impl fmt::Display for Survey {
+    ghost output = { λ s. Some (text_of_survey s) };
 
-    fn ending(&mut self, ending: Ending) -> Result<(), AllocError>
-        ensures { OnOk result (self.new ≡ self.old ++ ending_text ending) }
-    {
+    fn fmt<W: fmt::Write>(&self, f: &mut fmt::Formatter<W>) -> fmt::Result {
+        let Survey {
+            tokens,
+            words,
+            strings,
+            ending,
+        } = *self;
+        let marks = tokens.saturating_sub(words).saturating_sub(strings);
+        write!(
+            f,
+            "{tokens} tokens {words} words {strings} strings {marks} marks "
+        )?;
         match ending {
-            Ending::End(place) => self.labelled(b"end at ", place),
-            Ending::Fault(fault) => self.fault(fault),
+            Ending::End(place) => write!(f, "end at {place}"),
+            Ending::Fault(fault) => write!(f, "fault {} at {}", fault.code.number(), fault.place),
         }
     }
+}
 
-    fn survey(&mut self, survey: Survey) -> Result<(), AllocError>
-        ensures { OnOk result (self.new ≡ self.old ++ text_of_survey survey) }
-    {
-        let signs = survey.tokens.saturating_sub(survey.words);
-        let marks = signs.saturating_sub(survey.strings);
-        self.counted(survey.tokens, b" tokens ")?;
-        self.counted(survey.words, b" words ")?;
-        self.counted(survey.strings, b" strings ")?;
-        self.counted(marks, b" marks ")?;
-        self.ending(survey.ending)
-    }
+// A grammar's text, printed as its tokens by kind and its ending, or as too long.
+#[derive(Drop)]
+struct GrammarText<'a>(&'a [u8]);
 
-    // What is said of a grammar's text: its tokens by kind and its ending, or that it is too long.
-    fn grammar(&mut self, text: &[u8]) -> Result<(), AllocError>
-        ensures { OnOk result (self.new ≡ self.old ++ grammar_text text.now) }
-    {
-        match survey_text(text) {
-            Ok(survey) => self.survey(survey),
-            Err(too_long) => self.refused(&too_long),
+impl fmt::Display for GrammarText<'_> {
+    ghost output = { λ t. Some (grammar_text t.0.now) };
+
+    fn fmt<W: fmt::Write>(&self, f: &mut fmt::Formatter<W>) -> fmt::Result {
+        match survey_text(self.0) {
+            Ok(survey) => write!(f, "{survey}"),
+            Err(too_long) => write!(f, "{}", Refused(too_long)),
         }
     }
+}
 
-    // What is said of a job's text: how long it is, or that it is too long.
-    fn job(&mut self, text: &[u8]) -> Result<(), AllocError>
-        ensures { OnOk result (self.new ≡ self.old ++ job_text text.now) }
-    {
-        match check_length(text) {
-            Ok(()) => self.counted(text.len(), b" bytes"),
-            Err(too_long) => self.refused(&too_long),
+// A job's text, printed as how long it is, or as too long.
+#[derive(Drop)]
+struct JobText<'a>(&'a [u8]);
+
+impl fmt::Display for JobText<'_> {
+    ghost output = { λ t. Some (job_text t.0.now) };
+
+    fn fmt<W: fmt::Write>(&self, f: &mut fmt::Formatter<W>) -> fmt::Result {
+        match check_length(self.0) {
+            Ok(()) => write!(f, "{} bytes", self.0.len()),
+            Err(too_long) => write!(f, "{}", Refused(too_long)),
         }
     }
 }
@@ -61,11 +65,14 @@ impl Output {
 pub fn printout(alloc: Global, grammar: &[u8], job: &[u8]) -> Result<Vec<u8>, AllocError>
     ensures { IfOk result (λ out. out.items ≡ printed grammar.now job.now) }
 {
-    let mut out = Output::new(alloc);
-    out.put(b"grammar ")?;
-    out.grammar(grammar)?;
-    out.put(b"\njob ")?;
-    out.job(job)?;
-    out.put(b"\n")?;
-    Ok(out.into_bytes())
+    let mut out = Vec::new(alloc);
+    // A vector refuses what is written to it only for want of memory.
+    write!(
+        out,
+        "grammar {}\njob {}\n",
+        GrammarText(grammar),
+        JobText(job)
+    )
+    .map_err(|_| AllocError)?;
+    Ok(out)
 }
