@@ -25,7 +25,8 @@ fn closing_mark(closing: Option<Bracket>) -> Piece
 }
 
 impl Parser<'_, '_> {
-    // At a bar: the sequence from an index on is ended, and waits as a branch.
+    // At a bar: the sequence from an index on is ended, and waits as a branch. The index is required
+    // to be within the stack, which no type of its own can say.
     fn next_branch(&mut self, begin: usize) -> Result<(), Refusal>
         requires { MarkFirst self.old.words.now bar × (begin ≤ length (roots self.old)) }
         ensures { MatchResult result (λ _. BranchRead begin (reader self.old) (reader self.new)) (BranchRefused begin (reader self.old) (reader self.new)) }

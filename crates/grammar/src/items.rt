@@ -31,7 +31,8 @@ impl Parser<'_, '_> {
         Ok(Item::Node(node))
     }
 
-    // A name in a sequence.
+    // A name in a sequence. One text for this and the next would take the table, the entry, the class
+    // and the refusal as parameters.
     pub(crate) fn name_item(&mut self, word: Word) -> Result<Item, Refusal>
         requires { NamedFirst self.old.words.now word }
         ensures { (depth : Depth) → MatchResult result (ItemTold depth (reader self.old) (reader self.new)) (ItemRefused depth (reader self.old) (reader self.new)) }

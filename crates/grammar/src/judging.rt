@@ -51,7 +51,8 @@ fn read_all<'p, 'a>(
     })
 }
 
-// Reads a text into the tables. Where it is refused, what was read stays there.
+// Reads a text into the tables. Where it is refused, what was read stays there. The tables are three
+// parameters, since the caller supplies them one by one and gets them back so.
 fn fill<'a>(
     text: &'a [u8],
     names: &'a mut [Name],

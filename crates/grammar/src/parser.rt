@@ -10,7 +10,8 @@ use arrayvec::ArrayVec;
 use tables::{Kinds, NODES, Names, Nodes};
 
 // The tables are lent to the parser. The roots that wait for their parent are as on the stack of
-// a shift-reduce parser; each is a node of its own, so that there is room for them.
+// a shift-reduce parser; each is a node of its own, so that there is room for them. The stack is no
+// `Vec`, since judging may not fail for want of memory.
 #[derive(Drop)]
 pub(crate) struct Parser<'p, 'a> {
     pub words: &'p mut Words<'a>,

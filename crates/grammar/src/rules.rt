@@ -14,7 +14,8 @@ use tables::Name;
 use token::Next;
 
 impl Parser<'_, '_> {
-    // The name of a rule, which has none yet.
+    // The name of a rule, which has none yet. That the word stands first relates it to the parser, so
+    // that no type of one of them can say it; to look again would be a second look for a token.
     fn head(&mut self, word: Word) -> Result<usize, Refusal>
         requires { WordTold self.old.words.now word }
         ensures { MatchResult result (HeadRead (reader self.old) (reader self.new)) (HeadRefused (reader self.old) (reader self.new)) }

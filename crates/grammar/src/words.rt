@@ -57,6 +57,7 @@ impl Words<'_> {
     {
         match self.source.look()? {
             Next::Token(token) => {
+                // What piece it is stands in the text, so that no `From` of a token makes its word.
                 let piece = piece_of(clip(self.text, token.place, token.length));
                 Ok(Next::Token(Word {
                     piece,
