@@ -11,7 +11,8 @@ use tables::Name;
 use tree::Node;
 
 impl<'g> Draft<'g> {
-    // The draft of a text that was judged, over the tables that judging filled.
+    // The draft of a text that was judged, over the tables that judging filled: three, as the caller
+    // lent them.
     pub fn make(
         text: &'g [u8],
         names: &'g [Name],

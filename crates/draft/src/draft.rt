@@ -8,8 +8,9 @@ use tables::Name;
 use tree::Node;
 
 // A text, the whole tables that hold its reading, and how many entries they have. It borrows them,
-// so that nobody writes to them meanwhile, and only tables that were judged make one.
-#[derive(Drop)]
+// so that nobody writes to them meanwhile, and only tables that were judged make one. It has the whole
+// tables, since their unused places are promised too.
+#[derive(Debug, Drop)]
 pub struct Draft<'g> {
     pub(crate) text: &'g [u8],
     pub(crate) names: &'g [Name],

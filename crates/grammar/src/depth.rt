@@ -22,6 +22,7 @@ impl Depth {
     pub(crate) fn deeper(self) -> Option<Depth>
         ensures { MatchOption result (self.brackets ≡ 32) (λ d. d.brackets ≡ self.brackets + 1) }
     {
+        // No `then`: in its closure the test is not known.
         if self.brackets == DEPTH {
             return None;
         }

@@ -11,7 +11,8 @@ use tables::Full;
 use tree::Class;
 
 impl Parser<'_, '_> {
-    // The roots from an index on get their parent, which waits no longer.
+    // The roots from an index on get their parent, which waits no longer. That the index is within the
+    // stack relates the two, so that no type of its own can say it.
     fn reduce(&mut self, class: Class, from: usize) -> Result<u16, Full>
         requires { from ≤ length (roots_of (forest self.old)) }
         ensures told { MatchResult result (Reduced class from (forest self.old) (forest self.new)) (Unreduced class from (forest self.old) (forest self.new)) }

@@ -44,7 +44,8 @@ impl Parser<'_, '_> {
         self.leaf(Class::Name, name as u16)
     }
 
-    // A class word or a quoted spelling in a sequence; kinds are numbered from 1.
+    // A class word or a quoted spelling in a sequence; kinds are numbered from 1. What stands first is
+    // required, as in `head`.
     pub(crate) fn token_item(&mut self, word: Word) -> Result<Item, Refusal>
         requires { TerminalFirst self.old.words.now word }
         ensures { (depth : Depth) → MatchResult result (ItemTold depth (reader self.old) (reader self.new)) (ItemRefused depth (reader self.old) (reader self.new)) }

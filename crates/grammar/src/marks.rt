@@ -5,52 +5,29 @@ ghost use Rattle.lexer.specs.Vocabulary.{lexicon};
 
 use tokens::{Spelling, Vocabulary};
 
+// A record in one line; a macro, since a static calls no function.
+macro_rules! spelling {
+    ($place:expr, $length:expr) => {
+        Spelling {
+            place: $place,
+            length: $length,
+        }
+    };
+}
+
 // Where the notation's own text spells its kinds.
 static SPELLINGS: [Spelling; 11] = [
-    Spelling {
-        place: 0,
-        length: 4,
-    },
-    Spelling {
-        place: 5,
-        length: 6,
-    },
-    Spelling {
-        place: 12,
-        length: 4,
-    },
-    Spelling {
-        place: 17,
-        length: 3,
-    },
-    Spelling {
-        place: 21,
-        length: 3,
-    },
-    Spelling {
-        place: 25,
-        length: 3,
-    },
-    Spelling {
-        place: 29,
-        length: 3,
-    },
-    Spelling {
-        place: 33,
-        length: 3,
-    },
-    Spelling {
-        place: 37,
-        length: 3,
-    },
-    Spelling {
-        place: 41,
-        length: 3,
-    },
-    Spelling {
-        place: 45,
-        length: 3,
-    },
+    spelling!(0, 4),
+    spelling!(5, 6),
+    spelling!(12, 4),
+    spelling!(17, 3),
+    spelling!(21, 3),
+    spelling!(25, 3),
+    spelling!(29, 3),
+    spelling!(33, 3),
+    spelling!(37, 3),
+    spelling!(41, 3),
+    spelling!(45, 3),
 ];
 
 // The notation's own vocabulary: words are kind 1, strings kind 2, and the marks kinds 3 to 11.
