@@ -1,8 +1,16 @@
 -- What numbering an entry tells, where the entry is made of a word and `map_err` tells of a full table.
-use Rattle.std.proofs.Common.{◌≡◌, ℕ, List, sym, subst, rules, Ok, Err, Result, MatchResult}
+use Rattle.std.proofs.Common.{◌≡◌, ℕ, List, refl, sym, subst, rules, Ok, Err, Result, MatchResult}
+use Rattle.std.specs.Prelude.{IsErrAnd}
 use Rattle.grammar.proofs.Rooting.{still_clean}
 use Rattle.grammar.specs.Forest.{Clean}
+use Rattle.grammar.specs.Named.{NameNumbered, NameOver}
+use Rattle.grammar.specs.Parts.{Reader, with_names}
+use Rattle.grammar.specs.Reader.{text_of}
+use Rattle.grammar.specs.Words.{name_entry}
 use Rattle.grammar.specs.declared.refusal.Refusal.{Refusal}
+use Rattle.grammar.specs.declared.refusal.Refusal.TheVariants.{NamesFull}
+use Rattle.grammar.specs.declared.words.Word.{Word}
+use Rattle.tables.specs.declared.name.Name.{Name}
 use Rattle.tables.specs.Numbering.{Numbered, Refused}
 use Rattle.tables.specs.declared.filling.Filling.{Filling}
 use Rattle.tables.specs.declared.full.Full.{Full}
@@ -23,3 +31,10 @@ module _ {E : Type 0} {L : ℕ} (begins spans : E → ℕ) (text : List ℕ) (gi
   pub refused : {P : Full → Type 0} (r : Result ℕ Full) (d : Refusal) → MatchResult r (λ j. ◌≡◌ {A = Result ℕ Refusal} (Err d) (Ok j)) P → Told begins spans text given before after r → (e : Full) × P e × Refused begins spans text entry before after e
   refused (Ok j) d none told = search (none, rules)
   refused (Err e) d same told = (e, same, subst (λ x. Refused begins spans text x before after e) is told)
+
+-- the number of a name, where all else stays
+module _ (r : Reader) (x : Word) (given : Name) (is : given ≡ name_entry x) (names : Filling Name 64) (loan : names.table.ghost_name ≡ r.names.table.ghost_name) where
+  pub named : {P : Full → Refusal → Type 0} (n : Result ℕ Full) (s : Result ℕ Refusal) → MatchResult n (λ i. s ≡ Ok i) (λ f. IsErrAnd s (P f)) → ((f : Full) (e : Refusal) → P f e → e ≡ NamesFull x.place) → Told (λ e. e.place) (λ e. e.length) (text_of r) given r.names names n → MatchResult s (NameNumbered x r (with_names r names)) (NameOver x r (with_names r names))
+  named (Ok i) s same tells told = rw same (record { number = subst (λ e. Numbered (λ e. e.place) (λ e. e.length) (text_of r) e r.names names i) is told; loan = loan; beside = refl })
+  named (Err f) (Ok i) none tells told = absurd none
+  named (Err f) (Err e) same tells told = record { full = f; over = subst (λ e. Refused (λ e. e.place) (λ e. e.length) (text_of r) e r.names names f) is told; told = tells f e same; beside = refl }

@@ -3,6 +3,7 @@ pub mod Filled
 pub mod Forest
 pub mod Judged
 pub mod Leaf
+pub mod Named
 pub mod Notation
 pub mod Parts
 pub mod Pieces

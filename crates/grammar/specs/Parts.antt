@@ -41,6 +41,10 @@ reader p = record {
 abbrev pub with_forest : Reader → Forest → Reader
 with_forest r f = record { words = r.words; names = r.names; kinds = r.kinds; forest = f; lenders = r.lenders }
 
+-- the same but for the names
+abbrev pub with_names : Reader → Filling Name 64 → Reader
+with_names r n = record { words = r.words; names = n; kinds = r.kinds; forest = r.forest; lenders = r.lenders }
+
 -- the tables are those that were lent
 pub record SameLoans (before after : Parser) : Type 0 where
   pub words : after.words.ghost_name ≡ before.words.ghost_name

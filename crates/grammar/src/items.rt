@@ -3,6 +3,7 @@ ghost use Rattle.std.specs.Prelude.{MatchResult};
 ghost use Rattle.grammar.specs.declared.depth.Depth.{Depth};
 ghost use Rattle.grammar.specs.Parts.{reader};
 ghost use Rattle.grammar.specs.Leaf.{LeafRead, LeafRefused};
+ghost use Rattle.grammar.specs.Named.{NameNumbered, NameOver};
 ghost use Rattle.grammar.specs.Reader.{NamedFirst, TerminalFirst, SpellingFirst, ItemTold, ItemRefused};
 
 use crate::parser::Parser;
@@ -31,16 +32,22 @@ impl Parser<'_, '_> {
         Ok(Item::Node(node))
     }
 
+    // The number of the name that a word is.
+    pub(crate) fn name_number(&mut self, word: Word) -> Result<usize, Refusal>
+        ensures { MatchResult result (NameNumbered word (reader self.old) (reader self.new)) (NameOver word (reader self.old) (reader self.new)) }
+    {
+        self.names
+            .number(self.words.text, Name::from(word))
+            .map_err(|_| Refusal::NamesFull(word.place))
+    }
+
     // A name in a sequence. One text for this and the next would take the table, the entry, the class
     // and the refusal as parameters.
     pub(crate) fn name_item(&mut self, word: Word) -> Result<Item, Refusal>
         requires { NamedFirst self.old.words.now word }
         ensures { (depth : Depth) → MatchResult result (ItemTold depth (reader self.old) (reader self.new)) (ItemRefused depth (reader self.old) (reader self.new)) }
     {
-        let name = self
-            .names
-            .number(self.words.text, Name::from(word))
-            .map_err(|_| Refusal::NamesFull(word.place))?;
+        let name = self.name_number(word)?;
         self.leaf(Class::Name, name as u16)
     }
 

@@ -10,7 +10,6 @@ use crate::parser::Parser;
 use crate::piece::Piece;
 use crate::refusal::Refusal;
 use crate::words::Word;
-use tables::Name;
 use token::Next;
 
 impl Parser<'_, '_> {
@@ -23,10 +22,7 @@ impl Parser<'_, '_> {
         if word.piece != Piece::Name {
             return Err(Refusal::Misplaced(word.place));
         }
-        let name = self
-            .names
-            .number(self.words.text, Name::from(word))
-            .map_err(|_| Refusal::NamesFull(word.place))?;
+        let name = self.name_number(word)?;
         if self.names.has_rule(name) {
             return Err(Refusal::SecondRule(word.place));
         }
