@@ -84,7 +84,7 @@ fn fill<'a>(
     let mut words = Words { source, text };
     let mut names = Filling::new(names, ZERO_NAME);
     let mut kinds = Filling::new(kinds, ZERO_SPELLING);
-    let mut nodes = Filling::new(nodes, ZERO_NODE);
+    let mut nodes = Nodes::empty(nodes);
     read_all(&mut words, &mut names, &mut kinds, &mut nodes)
 }
 
