@@ -1,5 +1,5 @@
 -- A draft's tables, as they were judged.
-use Rattle.std.proofs.Common.{◌≡◌, ℕ, List, arith}
+use Rattle.std.proofs.Common.{◌≡◌, ℕ, List}
 use Rattle.draft.specs.Drafted.{borrowed, drafted}
 use Rattle.draft.specs.Reading.{Reading}
 use Rattle.draft.specs.declared.draft.Draft.{Draft}
@@ -8,9 +8,7 @@ use Rattle.grammar.specs.Judged.{Lent, limits_of, held, GrammarHeld}
 use Rattle.grammar.specs.Source.{grammar_tokens, grammar_ending}
 use Rattle.grammar.specs.declared.judging.Counts.{Counts}
 use Rattle.notation.proofs.Judging.{read_is_right, right_is_read}
-use Rattle.notation.proofs.Proved.{tables_well_formed}
 use Rattle.notation.specs.Reading.{read}
-use Rattle.notation.specs.Shaped.{IsWellFormed}
 
 module _ (text : List ℕ) (t : Lent) (c : Counts) where
   pub held_is_read : GrammarHeld text t c → Reading text t c
@@ -21,6 +19,3 @@ module _ (text : List ℕ) (t : Lent) (c : Counts) where
 
 pub draft_is_read : (d : Draft) → outcome d.text.now (limits_of (borrowed d)) ≡ read (drafted d)
 draft_is_read d = d.reading.all_read
-
-pub draft_shaped : (d : Draft) → IsWellFormed (drafted d)
-draft_shaped d = tables_well_formed (limits_of (borrowed d)) (grammar_tokens d.text.now) (grammar_ending d.text.now) (drafted d) (omega arith) (draft_is_read d)

@@ -16,8 +16,8 @@ use Rattle.tables.specs.Meant.{spot_at}
 use Rattle.tables.specs.declared.name.Name.{Name}
 use Rattle.token.specs.Faults.{fault_number}
 use Rattle.token.specs.declared.token.Fault.{Fault}
-use Rattle.token.specs.declared.token.Next.{Next}
-use Rattle.token.specs.declared.token.Next.TheVariants as next_is
+use Rattle.token.specs.declared.token.Upcoming.{Upcoming}
+use Rattle.token.specs.declared.token.Upcoming.TheVariants as next_is
 use Rattle.tokens.specs.Layered.{layered_tokens, layered_ending}
 
 -- the entry of a name that is first met at a word, with no rule yet
@@ -64,7 +64,7 @@ rest_of (t ∷ ts) = ts
 abbrev pub WordTold : Words → Word → Type 0
 WordTold w x = tokens w ≡ word_token w.text.now x ∷ rest_of (tokens w)
 
-abbrev pub AheadTold : Words → Next Word → Type 0
+abbrev pub AheadTold : Words → Upcoming Word → Type 0
 AheadTold w (next_is.Token x) = WordTold w x
 AheadTold w (next_is.End p) = (tokens w ≡ []) × (ending w ≡ end p)
 

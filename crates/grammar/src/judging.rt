@@ -13,7 +13,26 @@ use arrayvec::ArrayVec;
 use lexer::Spelling;
 use tables::{Filling, Kinds, Name, Names, Nodes, wipe_table};
 use tokens::layered;
-use tree::Node;
+use tree::{Class, Node};
+
+// What stands in unused places: constants, so that a static table can begin with them.
+pub const ZERO_NAME: Name = Name {
+    place: 0,
+    length: 0,
+    root: 0,
+};
+
+pub const ZERO_SPELLING: Spelling = Spelling {
+    place: 0,
+    length: 0,
+};
+
+pub const ZERO_NODE: Node = Node {
+    class: Class::Empty,
+    value: 0,
+    first: 0,
+    next: 0,
+};
 
 // How many entries each table has.
 #[derive(Clone, Copy, Debug, Default, PartialEq, Eq)]
@@ -63,9 +82,9 @@ fn fill<'a>(
 {
     let source = layered(text, vocabulary())?;
     let mut words = Words { source, text };
-    let mut names = Filling::new(names, Name::default());
-    let mut kinds = Filling::new(kinds, Spelling::default());
-    let mut nodes = Filling::new(nodes, Node::default());
+    let mut names = Filling::new(names, ZERO_NAME);
+    let mut kinds = Filling::new(kinds, ZERO_SPELLING);
+    let mut nodes = Nodes::empty(nodes);
     read_all(&mut words, &mut names, &mut kinds, &mut nodes)
 }
 
@@ -81,9 +100,9 @@ pub fn judge(
 {
     let answer = fill(text, names, kinds, nodes);
     if answer.is_err() {
-        wipe_table(names, Name::default());
-        wipe_table(kinds, Spelling::default());
-        wipe_table(nodes, Node::default());
+        wipe_table(names, ZERO_NAME);
+        wipe_table(kinds, ZERO_SPELLING);
+        wipe_table(nodes, ZERO_NODE);
     }
     answer
 }

@@ -15,7 +15,7 @@ mod rules;
 mod spelling;
 mod words;
 
-pub use judging::{Counts, judge};
+pub use judging::{Counts, ZERO_NAME, ZERO_NODE, ZERO_SPELLING, judge};
 pub use marks::vocabulary;
 pub use piece::{Bracket, Piece, piece_of};
 pub use refusal::Refusal;

@@ -31,7 +31,7 @@ static SPELLINGS: [Spelling; 11] = [
 ];
 
 // The notation's own vocabulary: words are kind 1, strings kind 2, and the marks kinds 3 to 11.
-pub fn vocabulary() -> Vocabulary<'static>
+pub fn vocabulary() -> Vocabulary<'static, 'static>
     ensures { lexicon result ≡ map Some notation_kinds }
 {
     Vocabulary {

@@ -10,7 +10,7 @@ use crate::parser::Parser;
 use crate::piece::Piece;
 use crate::refusal::Refusal;
 use crate::words::Word;
-use token::Next;
+use token::Upcoming;
 
 impl Parser<'_, '_> {
     // The name of a rule, which has none yet. That the word stands first relates it to the parser, so
@@ -72,8 +72,8 @@ impl Parser<'_, '_> {
     {
         loop {
             match self.words.ahead()? {
-                Next::Token(word) => self.rule(word)?,
-                Next::End(place) => return self.end_of_text(place),
+                Upcoming::Token(word) => self.rule(word)?,
+                Upcoming::End(place) => return self.end_of_text(place),
             }
         }
     }

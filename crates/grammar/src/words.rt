@@ -6,7 +6,7 @@ use crate::piece::{Piece, piece_of};
 use crate::refusal::Refusal;
 use lexer::Spelling;
 use tables::{Name, clip};
-use token::{Fault, Next};
+use token::{Fault, Next, Upcoming};
 use tokens::{Skipping, TextSource, TokenSource};
 use tree::NONE;
 
@@ -46,26 +46,26 @@ impl From<Word> for Spelling {
 // The source of a text, and the text.
 #[derive(Drop)]
 pub(crate) struct Words<'a> {
-    pub source: Skipping<TextSource<'a, 'static>>,
+    pub source: Skipping<TextSource<'a, 'static, 'static>>,
     pub text: &'a [u8],
 }
 
 impl Words<'_> {
     // The first token, or else the end.
-    pub(crate) fn ahead(&self) -> Result<Next<Word>, Fault>
+    pub(crate) fn ahead(&self) -> Result<Upcoming<Word>, Fault>
         ensures { MatchResult result (AheadTold self.now) (λ f. Stuck self.now f) }
     {
         match self.source.look()? {
             Next::Token(token) => {
                 // What piece it is stands in the text, so that no `From` of a token makes its word.
                 let piece = piece_of(clip(self.text, token.place, token.length));
-                Ok(Next::Token(Word {
+                Ok(Upcoming::Token(Word {
                     piece,
                     place: token.place,
                     length: token.length,
                 }))
             }
-            Next::End(place) => Ok(Next::End(place)),
+            Next::End(place) => Ok(Upcoming::End(place)),
         }
     }
 
@@ -74,8 +74,8 @@ impl Words<'_> {
         ensures { MatchResult result (WordTold self.now) (Halted self.now) }
     {
         match self.ahead()? {
-            Next::Token(word) => Ok(word),
-            Next::End(place) => Err(Refusal::Misplaced(place)),
+            Upcoming::Token(word) => Ok(word),
+            Upcoming::End(place) => Err(Refusal::Misplaced(place)),
         }
     }
 

@@ -34,7 +34,7 @@ fn judge(length: usize, kind: Option<u8>) -> Result<Lexeme, FaultCode>
 }
 
 // A word has the kind of its spelling, else of the class of words.
-fn kind_of_word(word: &[u8], vocabulary: &Vocabulary<'_>) -> Option<u8>
+fn kind_of_word(word: &[u8], vocabulary: &Vocabulary<'_, '_>) -> Option<u8>
     ensures { result ≡ word_kind (lexicon vocabulary.now) word.now }
 {
     // A match, since what a closure over references answers is not known to its caller.
@@ -53,7 +53,7 @@ fn length_of_string(inside: &[u8]) -> Option<usize>
     (end == b'"').then_some(n + 2)
 }
 
-fn lex_string(inside: &[u8], vocabulary: &Vocabulary<'_>) -> Result<Lexeme, FaultCode>
+fn lex_string(inside: &[u8], vocabulary: &Vocabulary<'_, '_>) -> Result<Lexeme, FaultCode>
     ensures { result ≡ string_lexeme (lexicon vocabulary.now) (string_length inside.now) }
 {
     let length = length_of_string(inside).ok_or(FaultCode::Unclosed)?;
@@ -61,7 +61,7 @@ fn lex_string(inside: &[u8], vocabulary: &Vocabulary<'_>) -> Result<Lexeme, Faul
 }
 
 // The kind of two sign bytes, if the grammar spells the pair.
-fn kind_of_pair(first: u8, second: u8, vocabulary: &Vocabulary<'_>) -> Option<u8>
+fn kind_of_pair(first: u8, second: u8, vocabulary: &Vocabulary<'_, '_>) -> Option<u8>
     ensures { result ≡ pair_kind (lexicon vocabulary.now) first second }
 {
     if !is_sign(second) {
@@ -70,14 +70,14 @@ fn kind_of_pair(first: u8, second: u8, vocabulary: &Vocabulary<'_>) -> Option<u8
     vocabulary.kind_of(Sought::Quoted(&[first, second]))
 }
 
-fn lex_one_sign(first: u8, vocabulary: &Vocabulary<'_>) -> Result<Lexeme, FaultCode>
+fn lex_one_sign(first: u8, vocabulary: &Vocabulary<'_, '_>) -> Result<Lexeme, FaultCode>
     ensures { result ≡ one_sign (lexicon vocabulary.now) first }
 {
     judge(1, vocabulary.kind_of(Sought::Quoted(&[first])))
 }
 
 // Two sign bytes if the grammar spells the pair, else one.
-fn lex_sign(rest: &[u8], vocabulary: &Vocabulary<'_>) -> Result<Lexeme, FaultCode>
+fn lex_sign(rest: &[u8], vocabulary: &Vocabulary<'_, '_>) -> Result<Lexeme, FaultCode>
     ensures { result ≡ sign_lexeme (lexicon vocabulary.now) rest.now }
 {
     match rest {
@@ -91,7 +91,7 @@ fn lex_sign(rest: &[u8], vocabulary: &Vocabulary<'_>) -> Result<Lexeme, FaultCod
 }
 
 // The token at the front of a text that has a byte left.
-pub fn lex(rest: &[u8], vocabulary: &Vocabulary<'_>) -> Result<Lexeme, FaultCode>
+pub fn lex(rest: &[u8], vocabulary: &Vocabulary<'_, '_>) -> Result<Lexeme, FaultCode>
     ensures { result ≡ front (lexicon vocabulary.now) rest.now }
 {
     let [first, after @ ..] = rest else {

@@ -1,5 +1,5 @@
 // The kinds of a grammar, by how its text spells them.
-ghost use Rattle.std.specs.Prelude.{◌≡◌, ◌<◌, take, IfSome};
+ghost use Rattle.std.specs.Prelude.{◌≡◌, ◌<◌, length as size, take, IfSome};
 ghost use Rattle.std.specs.List.{position};
 ghost use Rattle.std.specs.Option.{option_map};
 ghost use Rattle.std.specs.Str.{bytes_eq};
@@ -28,9 +28,9 @@ pub enum Sought<'a> {
 // A grammar's text and where it spells its kinds: the entry at index i spells kind i + 1. Any
 // values will do; an entry that reaches past the text spells nothing.
 #[derive(Clone, Copy, Debug)]
-pub struct Vocabulary<'g> {
-    pub text: &'g [u8],
-    pub kinds: &'g [Spelling],
+pub struct Vocabulary<'t, 'k> {
+    pub text: &'t [u8],
+    pub kinds: &'k [Spelling],
 }
 
 // A part of the text, or none where it reaches past the end.
@@ -38,6 +38,16 @@ pub fn part(text: &[u8], place: usize, length: usize) -> Option<&[u8]>
     ensures { option_map (λ x. x.now) result ≡ part_of text.now place length }
 {
     text.get(place..)?.get(..length)
+}
+
+// How long what is sought is in the grammar's text, its quotes counted.
+fn written_length(sought: Sought<'_>) -> usize
+    ensures { result ≡ size (written sought.entry) }
+{
+    match sought {
+        Sought::Class(word) => word.len(),
+        Sought::Quoted(inside) => inside.len() + 2,
+    }
 }
 
 // A class goes by its word, and a spelling stands in quotes.
@@ -59,11 +69,14 @@ fn is_quoted(bytes: &[u8], inside: &[u8]) -> bool
     }
 }
 
-impl Vocabulary<'_> {
-    // Whether the entry spells what is sought.
+impl Vocabulary<'_, '_> {
+    // Whether the entry spells what is sought. The length alone excludes most entries.
     fn is_spelled(&self, spelling: Spelling, sought: Sought<'_>) -> bool
         ensures { result ≡ reads (spelled self.now.text.now spelling) (written sought.entry) }
     {
+        if spelling.length != written_length(sought) {
+            return false;
+        }
         // A match, as in `kind_of_word`.
         match part(self.text, spelling.place, spelling.length) {
             Some(bytes) => is_written(bytes, sought),

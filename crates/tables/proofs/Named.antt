@@ -34,7 +34,7 @@ ruled_past (n ∷ ns) zero h = absurd (omega arith)
 ruled_past (n ∷ ns) (suc i) h = ruled_past ns i (omega arith)
 
 -- a name that is known has a rule unless its root is 1,024
-module _ (t : Filling Name 64) (i : ℕ) where
+module _ {L : ℕ} (t : Filling Name L) (i : ℕ) where
   pub ruled_in : i < t.count → ruled i (entries t) ≡ not (eqb (get_or t.table.now i no_name).root 1024)
   ruled_in h = ruled_within (entries t) i (omega (arith, length-take t.count t.table.now, t.within)) ∙ ap (λ n. not (eqb n.root 1024)) (get_or-take t.count t.table.now i no_name h)
 

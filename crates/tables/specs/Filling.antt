@@ -17,6 +17,11 @@ module _ {E : Type 0} {L : ℕ} where
     pub none : entries t ≡ []
     pub wiped : t.table.now ≡ replicate (length table) zero
 
+  -- the first places are entries, count of them or as many as there can be, and nothing is written
+  pub record IsResumed (table : List E) (count : ℕ) (t : Filling E L) : Type 0 where
+    pub part : entries t ≡ take (min count (min L (length table))) table
+    pub same : t.table.now ≡ table
+
   -- places past the entries are as they were, and no entry is given up
   pub record RestKept (before after : Filling E L) : Type 0 where
     pub grows : before.count ≤ after.count

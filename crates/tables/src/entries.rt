@@ -1,7 +1,7 @@
 // What a table is filled with. Each call ensures that the loan stays, so that the lender knows its
 // table afterwards.
 ghost use Rattle.std.specs.Prelude.{◌≡◌, length, MatchResult};
-ghost use Rattle.tables.specs.Filling.{entries, room, IsNew, Added, IsFull};
+ghost use Rattle.tables.specs.Filling.{entries, room, IsNew, IsResumed, Added, IsFull};
 
 use crate::filling::Filling;
 use crate::full::Full;
@@ -15,6 +15,25 @@ impl<'a, E: Copy, const LIMIT: usize> Filling<'a, E, LIMIT> {
     {
         wipe_table(table, zero);
         Filling { table, count: 0 }
+    }
+}
+
+impl<'a, E, const LIMIT: usize> Filling<'a, E, LIMIT> {
+    // A table that goes on from where it was left: its first places are entries, `count` of them or
+    // as many as there can be.
+    pub fn resumed(table: &'a mut [E], count: usize) -> Self
+        ensures part { IsResumed table.old count result }
+        ensures loan { result.table.ghost_name ≡ table.entry.ghost_name }
+    {
+        let count = count.min(LIMIT).min(table.len());
+        Filling { table, count }
+    }
+
+    // The whole table, with the places that are not used.
+    pub fn table(&self) -> &[E]
+        ensures { result.now ≡ self.now.table.now }
+    {
+        self.table
     }
 }
 

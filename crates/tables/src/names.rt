@@ -1,12 +1,13 @@
-// The roots of names.
+// The roots of names, at any limit of their table.
 ghost use Rattle.std.specs.Prelude.{◌≡◌};
 ghost use Rattle.tables.specs.Filling.{entries, RestKept};
 ghost use Rattle.tables.specs.Names.{rooted, ruled, lowest_unruled};
 
-use crate::filling::Names;
+use crate::filling::Filling;
+use crate::name::Name;
 use tree::NONE;
 
-impl Names<'_> {
+impl<const LIMIT: usize> Filling<'_, Name, LIMIT> {
     // The rule of a name that is known has this root.
     pub fn set_root(&mut self, name: usize, root: u16)
         ensures list { entries self.new ≡ rooted name root (entries self.old) }

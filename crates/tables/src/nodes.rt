@@ -1,12 +1,22 @@
 // Nodes, and rows of them.
 ghost use Rattle.std.specs.Prelude.{◌≡◌, MatchResult};
 ghost use Rattle.notation.specs.Tables.{join, link as linked};
-ghost use Rattle.tables.specs.Filling.{entries, RestKept, IsFull};
-ghost use Rattle.tables.specs.Nodes.{NodeMade, RowEnded, RowRefused};
+ghost use Rattle.tables.specs.Filling.{entries, IsNew, RestKept, IsFull};
+ghost use Rattle.tables.specs.Nodes.{zero_node, NodeMade, RowEnded, RowRefused};
 
 use crate::filling::Nodes;
 use crate::full::Full;
 use tree::{Class, NONE, Node};
+
+impl<'a> Nodes<'a> {
+    // A table without nodes: every place is 0.
+    pub fn empty(table: &'a mut [Node]) -> Self
+        ensures empty { IsNew table.old zero_node result }
+        ensures loan { result.table.ghost_name ≡ table.entry.ghost_name }
+    {
+        Self::new(table, Node::default())
+    }
+}
 
 impl Nodes<'_> {
     // One more node, with no sibling yet; refused where the table is full.

@@ -4,11 +4,11 @@ use Rattle.kindset.specs.Member.{member}
 use Rattle.kindset.specs.declared.KindSet.{KindSet}
 use Rattle.std.specs.List.{AllByRecursion}
 use Rattle.std.proofs.ByRecursion.{all_kept_by}
-use Rattle.tokens.specs.Held.{with_held, NextFits}
+use Rattle.tokens.specs.Held.{Held, with_held, NextFits}
 use Rattle.scanning.specs.Scan.{KindFits}
 use Rattle.token.specs.declared.token.Fault.{Fault}
-use Rattle.token.specs.declared.token.Next.{Next}
-use Rattle.token.specs.declared.token.Next.TheVariants as next_is
+use Rattle.token.specs.declared.token.Upcoming.{Upcoming}
+use Rattle.token.specs.declared.token.Upcoming.TheVariants as next_is
 use Rattle.token.specs.declared.token.Token.{Token}
 
 -- a token is kept whose kind is not skipped
@@ -20,10 +20,13 @@ abbrev pub without : KindSet → List Token → List Token
 without skipped ts = filter (keeps skipped) ts
 
 -- the law of kinds, for a source that holds its first token, and for the layer
-pub held_kinds : (n : Result (Next Token) Fault) (ts : List Token) → NextFits n → AllByRecursion KindFits ts → AllByRecursion KindFits (with_held n ts)
-held_kinds (Ok (next_is.Token t)) ts f a = (f, a)
-held_kinds (Ok (next_is.End p)) ts f a = tt
-held_kinds (Err e) ts f a = tt
+pub held_kinds : (h : Held) (ts : List Token) → AllByRecursion KindFits ts → AllByRecursion KindFits (with_held h.next ts)
+held_kinds h ts a = go h.next h.fits
+  where
+    go : (n : Result (Upcoming Token) Fault) → NextFits n → AllByRecursion KindFits (with_held n ts)
+    go (Ok (next_is.Token t)) f = (f, a)
+    go (Ok (next_is.End p)) f = tt
+    go (Err e) f = tt
 
-pub layer_kinds : (n : Result (Next Token) Fault) (skipped : KindSet) (ts : List Token) → NextFits n → AllByRecursion KindFits ts → AllByRecursion KindFits (with_held n (without skipped ts))
-layer_kinds n skipped ts f a = held_kinds n (without skipped ts) f (all_kept_by (keeps skipped) KindFits ts a)
+pub layer_kinds : (h : Held) (skipped : KindSet) (ts : List Token) → AllByRecursion KindFits ts → AllByRecursion KindFits (with_held h.next (without skipped ts))
+layer_kinds h skipped ts a = held_kinds h (without skipped ts) (all_kept_by (keeps skipped) KindFits ts a)

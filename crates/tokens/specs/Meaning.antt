@@ -49,4 +49,4 @@ pub record Scans (x : Lexicon) (text : List ℕ) (s : TextSource) : Type 0 where
 
 -- the law of kinds, for the text source
 pub text_kinds : (s : TextSource) → AllByRecursion KindFits (text_tokens s)
-text_kinds s = held_kinds s.ahead.next (unlexed s).tokens s.fits (scan_kinds (lexicon s.vocabulary) (drop s.ahead.place s.text.now) 0 s.ahead.place)
+text_kinds s = held_kinds (record { next = s.ahead.next; fits = s.fits }) (unlexed s).tokens (scan_kinds (lexicon s.vocabulary) (drop s.ahead.place s.text.now) 0 s.ahead.place)

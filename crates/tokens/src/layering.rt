@@ -20,10 +20,10 @@ fn passed_over() -> KindSet
 
 // The source of a text without its blanks and comments, refused exactly where the text is too
 // long. Grammars and jobs are read through it.
-pub fn layered<'s, 'g>(
+pub fn layered<'s, 't, 'k>(
     text: &'s [u8],
-    vocabulary: Vocabulary<'g>,
-) -> Result<Skipping<TextSource<'s, 'g>>, TooLong>
+    vocabulary: Vocabulary<'t, 'k>,
+) -> Result<Skipping<TextSource<'s, 't, 'k>>, TooLong>
     ensures { MatchResult result (Layered (lexicon vocabulary.entry) text.now) (IsTooLong text.now) }
 {
     let source = TextSource::new(text, vocabulary)?;

@@ -60,7 +60,7 @@ impl<S: TokenSource> TokenSource for Skipping<S> {
 
     ghost input = { λ s. S.TokenSource.input s.source };
 
-    ghost kinds = { λ s. layer_kinds s.held s.skipped (S.TokenSource.tokens s.source) s.fits (S.TokenSource.kinds s.source) };
+    ghost kinds = { λ s. layer_kinds (record { next = s.held; fits = s.fits }) s.skipped (S.TokenSource.tokens s.source) (S.TokenSource.kinds s.source) };
 
     fn look(&self) -> Result<Next, Fault> {
         self.held

@@ -57,7 +57,7 @@ static SPELLINGS: [Spelling; 11] = [
     },
 ];
 
-fn vocabulary() -> Vocabulary<'static> {
+fn vocabulary() -> Vocabulary<'static, 'static> {
     Vocabulary {
         text: b"\"copy\" WORD NUMBER STRING \";\" \"->\" \"-\" \">\" \"+=\"",
         kinds: &SPELLINGS,

@@ -31,15 +31,15 @@ struct Ahead {
 
 // A text and the vocabulary by which it is read. It holds its first token, or else the ending.
 #[derive(Debug, Drop)]
-pub struct TextSource<'s, 'g> {
+pub struct TextSource<'s, 't, 'k> {
     text: &'s [u8],
-    vocabulary: Vocabulary<'g>,
+    vocabulary: Vocabulary<'t, 'k>,
     ahead: Ahead,
     ghost fits: { NextFits ahead.next } by { next_fits_prop ahead.next },
 }
 
 // Lexes one token at a place.
-fn lex_at(text: &[u8], place: usize, vocabulary: &Vocabulary<'_>) -> Ahead
+fn lex_at(text: &[u8], place: usize, vocabulary: &Vocabulary<'_, '_>) -> Ahead
     ensures fits { NextFits result.next }
     ensures tokens { with_held result.next (scan_from (lexicon vocabulary.now) (drop result.place text.now) result.place).tokens ≡ (scan_from (lexicon vocabulary.now) (drop place text.now) place).tokens }
     ensures ending { held_ending result.next (scan_from (lexicon vocabulary.now) (drop result.place text.now) result.place).ending ≡ (scan_from (lexicon vocabulary.now) (drop place text.now) place).ending }
@@ -66,11 +66,14 @@ fn lex_at(text: &[u8], place: usize, vocabulary: &Vocabulary<'_>) -> Ahead
     }
 }
 
-impl<'s, 'g> TextSource<'s, 'g> {
+impl<'s, 't, 'k> TextSource<'s, 't, 'k> {
     ghost use Rattle.tokens.specs.Meaning.{Scans};
 
     // The source of a text, refused exactly where the text is too long.
-    pub fn new(text: &'s [u8], vocabulary: Vocabulary<'g>) -> Result<TextSource<'s, 'g>, TooLong>
+    pub fn new(
+        text: &'s [u8],
+        vocabulary: Vocabulary<'t, 'k>,
+    ) -> Result<TextSource<'s, 't, 'k>, TooLong>
         ensures { MatchResult result (Scans (lexicon vocabulary.entry) text.now) (IsTooLong text.now) }
     {
         check_length(text)?;
@@ -83,7 +86,7 @@ impl<'s, 'g> TextSource<'s, 'g> {
     }
 }
 
-impl TokenSource for TextSource<'_, '_> {
+impl TokenSource for TextSource<'_, '_, '_> {
     ghost use Rattle.tokens.specs.Meaning.{text_tokens, text_ending, text_kinds};
 
     ghost tokens = { text_tokens };
@@ -105,7 +108,7 @@ impl TokenSource for TextSource<'_, '_> {
     }
 }
 
-impl WithText for TextSource<'_, '_> {
+impl WithText for TextSource<'_, '_, '_> {
     fn bytes(&self, token: Token) -> Option<&[u8]> {
         part(self.text, token.place, token.length)
     }

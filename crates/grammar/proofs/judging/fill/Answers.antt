@@ -9,7 +9,7 @@ pub read_all-requires : goal.read_all-requires
 read_all-requires c =
     let names = c.new-names.ensures.empty in
     let kinds = c.new-kinds.ensures.empty in
-    let nodes = c.new-nodes.ensures.empty in (
+    let nodes = c.empty-nodes.ensures.empty in (
       subst (λ x. Layered x c.args.text.now c.in_ok-source.source) c.vocabulary.ensures c.in_ok-source.ensures,
       record {
         no_name = names.none;
@@ -17,6 +17,6 @@ read_all-requires c =
         no_node = nodes.none;
         names_clean = new_clean _ zero_name _ c.new-names.result names (search rules);
         kinds_clean = new_clean _ zero_spelling _ c.new-kinds.result kinds (search rules);
-        nodes_clean = new_clean _ zero_node _ c.new-nodes.result nodes (search rules);
+        nodes_clean = new_clean _ zero_node _ c.empty-nodes.result nodes (search rules);
       },
     )

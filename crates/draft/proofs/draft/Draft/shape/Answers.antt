@@ -1,4 +1,4 @@
-use Rattle.draft.proofs.Held.{draft_shaped}
+use Rattle.draft.proofs.Shape.{draft_shaped}
 use Rattle.draft.proofs.draft.Draft.shape.Goals as goal
 
 pub returns-clause-tree : goal.returns-clause-tree
