@@ -8,8 +8,8 @@ use Rattle.tables.specs.Spots.{cut}
 use Rattle.token.specs.declared.token.Ending.{Ending}
 use Rattle.token.specs.declared.token.Ending.TheVariants as ending_is
 use Rattle.token.specs.declared.token.Fault.{Fault}
-use Rattle.token.specs.declared.token.Upcoming.{Upcoming}
-use Rattle.token.specs.declared.token.Upcoming.TheVariants as next_is
+use Rattle.token.specs.declared.token.Next.{Next}
+use Rattle.token.specs.declared.token.Next.TheVariants as next_is
 use Rattle.token.specs.declared.token.Token.{Token}
 use Rattle.tokens.specs.Sources.{looked}
 use Rattle.grammar.specs.Pieces.{IsClassWord, Quoted, Pieced}
@@ -59,11 +59,11 @@ pieced w p (piece_is.Closing bracket_is.Round) h = ap (λ v. sort (record { mark
 pieced w p (piece_is.Closing bracket_is.Square) h = ap (λ v. sort (record { mark = mark_of v; bytes = w; place = p })) h
 pieced w p (piece_is.Closing bracket_is.Curly) h = ap (λ v. sort (record { mark = mark_of v; bytes = w; place = p })) h
 
-same_token : (t u : Token) → ◌≡◌ {A = Result (Upcoming Token) Fault} (Ok (next_is.Token t)) (Ok (next_is.Token u)) → t ≡ u
+same_token : (t u : Token) → ◌≡◌ {A = Result Next Fault} (Ok (next_is.Token t)) (Ok (next_is.Token u)) → t ≡ u
 same_token t u e = cc
 
 -- the first token, as it was looked at
-pub first_token : (text : List ℕ) (ts : List Token) (e : Ending) (t : Token) (w : List ℕ) (k : Piece) → ◌≡◌ {A = Result (Upcoming Token) Fault} (Ok (next_is.Token t)) (looked ts e) → w ≡ cut text t.place t.length → Pieced w k → map (sorted text) ts ≡ piece_token k (record { bytes = cut text t.place t.length; place = t.place }) ∷ rest_of (map (sorted text) ts)
+pub first_token : (text : List ℕ) (ts : List Token) (e : Ending) (t : Token) (w : List ℕ) (k : Piece) → ◌≡◌ {A = Result Next Fault} (Ok (next_is.Token t)) (looked ts e) → w ≡ cut text t.place t.length → Pieced w k → map (sorted text) ts ≡ piece_token k (record { bytes = cut text t.place t.length; place = t.place }) ∷ rest_of (map (sorted text) ts)
 first_token text [] (ending_is.End p) t w k h c m = let z : ◌≡◌ {A = ℕ} 0 1 = cc in absurd (omega arith)
 first_token text [] (ending_is.Fault f) t w k h c m = let z : ◌≡◌ {A = ℕ} 0 1 = cc in absurd (omega arith)
 first_token text (u ∷ us) e t w k h c m =

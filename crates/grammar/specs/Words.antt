@@ -7,6 +7,8 @@ use Rattle.grammar.specs.declared.piece.Piece.{Piece}
 use Rattle.grammar.specs.declared.piece.Piece.TheVariants as piece_is
 use Rattle.grammar.specs.declared.refusal.Refusal.{Refusal}
 use Rattle.grammar.specs.declared.refusal.Refusal.TheVariants as refusal_is
+use Rattle.grammar.specs.declared.words.Ahead.{Ahead}
+use Rattle.grammar.specs.declared.words.Ahead.TheVariants as ahead_is
 use Rattle.grammar.specs.declared.words.Word.{Word}
 use Rattle.grammar.specs.declared.words.Words.{Words}
 use Rattle.lexer.specs.declared.vocabulary.Spelling.{Spelling}
@@ -16,8 +18,6 @@ use Rattle.tables.specs.Meant.{spot_at}
 use Rattle.tables.specs.declared.name.Name.{Name}
 use Rattle.token.specs.Faults.{fault_number}
 use Rattle.token.specs.declared.token.Fault.{Fault}
-use Rattle.token.specs.declared.token.Upcoming.{Upcoming}
-use Rattle.token.specs.declared.token.Upcoming.TheVariants as next_is
 use Rattle.tokens.specs.Layered.{layered_tokens, layered_ending}
 
 -- the entry of a name that is first met at a word, with no rule yet
@@ -64,9 +64,9 @@ rest_of (t ∷ ts) = ts
 abbrev pub WordTold : Words → Word → Type 0
 WordTold w x = tokens w ≡ word_token w.text.now x ∷ rest_of (tokens w)
 
-abbrev pub AheadTold : Words → Upcoming Word → Type 0
-AheadTold w (next_is.Token x) = WordTold w x
-AheadTold w (next_is.End p) = (tokens w ≡ []) × (ending w ≡ end p)
+abbrev pub AheadTold : Words → Ahead → Type 0
+AheadTold w (ahead_is.Word x) = WordTold w x
+AheadTold w (ahead_is.End p) = (tokens w ≡ []) × (ending w ≡ end p)
 
 abbrev pub Stuck : Words → Fault → Type 0
 Stuck w f = (tokens w ≡ []) × (ending w ≡ fault f.place (fault_number f.code))

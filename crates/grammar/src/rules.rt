@@ -9,8 +9,7 @@ use crate::depth::Depth;
 use crate::parser::Parser;
 use crate::piece::Piece;
 use crate::refusal::Refusal;
-use crate::words::Word;
-use token::Upcoming;
+use crate::words::{Ahead, Word};
 
 impl Parser<'_, '_> {
     // The name of a rule, which has none yet. That the word stands first relates it to the parser, so
@@ -72,8 +71,8 @@ impl Parser<'_, '_> {
     {
         loop {
             match self.words.ahead()? {
-                Upcoming::Token(word) => self.rule(word)?,
-                Upcoming::End(place) => return self.end_of_text(place),
+                Ahead::Word(word) => self.rule(word)?,
+                Ahead::End(place) => return self.end_of_text(place),
             }
         }
     }

@@ -6,7 +6,7 @@ use crate::piece::{Piece, piece_of};
 use crate::refusal::Refusal;
 use lexer::Spelling;
 use tables::{Name, clip};
-use token::{Fault, Next, Upcoming};
+use token::{Fault, Next};
 use tokens::{Skipping, TextSource, TokenSource};
 use tree::NONE;
 
@@ -16,6 +16,14 @@ pub(crate) struct Word {
     pub piece: Piece,
     pub place: usize,
     pub length: usize,
+}
+
+// What comes next: a token, or the end at a place. A type of its own beside `Next`: generic, that
+// would ask for a type where only its end is named.
+#[derive(Clone, Copy, Debug)]
+pub(crate) enum Ahead {
+    Word(Word),
+    End(usize),
 }
 
 // The entry of a name that is first met here, with no rule yet.
@@ -52,20 +60,20 @@ pub(crate) struct Words<'a> {
 
 impl Words<'_> {
     // The first token, or else the end.
-    pub(crate) fn ahead(&self) -> Result<Upcoming<Word>, Fault>
+    pub(crate) fn ahead(&self) -> Result<Ahead, Fault>
         ensures { MatchResult result (AheadTold self.now) (λ f. Stuck self.now f) }
     {
         match self.source.look()? {
             Next::Token(token) => {
                 // What piece it is stands in the text, so that no `From` of a token makes its word.
                 let piece = piece_of(clip(self.text, token.place, token.length));
-                Ok(Upcoming::Token(Word {
+                Ok(Ahead::Word(Word {
                     piece,
                     place: token.place,
                     length: token.length,
                 }))
             }
-            Next::End(place) => Ok(Upcoming::End(place)),
+            Next::End(place) => Ok(Ahead::End(place)),
         }
     }
 
@@ -74,8 +82,8 @@ impl Words<'_> {
         ensures { MatchResult result (WordTold self.now) (Halted self.now) }
     {
         match self.ahead()? {
-            Upcoming::Token(word) => Ok(word),
-            Upcoming::End(place) => Err(Refusal::Misplaced(place)),
+            Ahead::Word(word) => Ok(word),
+            Ahead::End(place) => Err(Refusal::Misplaced(place)),
         }
     }
 

@@ -5,4 +5,4 @@ mod refusal;
 mod token;
 
 pub use refusal::{NothingLeft, Numbered, TooLong};
-pub use token::{Ending, Fault, FaultCode, Next, Token, Upcoming};
+pub use token::{Ending, Fault, FaultCode, Next, Token};

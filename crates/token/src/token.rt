@@ -42,16 +42,12 @@ pub struct Fault {
     pub place: usize,
 }
 
-// What comes next where there is no fault: a token in some form, or the end at a place.
+// What comes next in a source that has no fault there: a token, or the end at a place.
 #[derive(Clone, Copy, Debug, PartialEq, Eq)]
-pub enum Upcoming<T> {
-    Token(T),
+pub enum Next {
+    Token(Token),
     End(usize),
 }
-
-// What comes next in a source. An alias, and no parameter with a default, so that `Next::End(place)` has a
-// type by itself.
-pub type Next = Upcoming<Token>;
 
 // What a source comes to after its last token. A value to compare, with which no call fails, so
 // that it is no `Result`.

@@ -6,7 +6,7 @@ use Rattle.tokens.specs.Sources.{looked, left}
 use Rattle.token.specs.declared.token.Ending.{Ending}
 use Rattle.token.specs.declared.token.Ending.TheVariants as ending_is
 use Rattle.token.specs.declared.token.FaultCode.TheVariants.{OutOfRange}
-use Rattle.token.specs.declared.token.Upcoming.TheVariants.{Token}
+use Rattle.token.specs.declared.token.Next.TheVariants.{Token}
 use Rattle.token.specs.declared.token.Token.{Token as TokenOf}
 
 -- after a token the table goes on

@@ -7,8 +7,8 @@ use Rattle.std.proofs.ByRecursion.{all_kept_by}
 use Rattle.tokens.specs.Held.{Held, with_held, NextFits}
 use Rattle.scanning.specs.Scan.{KindFits}
 use Rattle.token.specs.declared.token.Fault.{Fault}
-use Rattle.token.specs.declared.token.Upcoming.{Upcoming}
-use Rattle.token.specs.declared.token.Upcoming.TheVariants as next_is
+use Rattle.token.specs.declared.token.Next.{Next}
+use Rattle.token.specs.declared.token.Next.TheVariants as next_is
 use Rattle.token.specs.declared.token.Token.{Token}
 
 -- a token is kept whose kind is not skipped
@@ -23,7 +23,7 @@ without skipped ts = filter (keeps skipped) ts
 pub held_kinds : (h : Held) (ts : List Token) → AllByRecursion KindFits ts → AllByRecursion KindFits (with_held h.next ts)
 held_kinds h ts a = go h.next h.fits
   where
-    go : (n : Result (Upcoming Token) Fault) → NextFits n → AllByRecursion KindFits (with_held n ts)
+    go : (n : Result Next Fault) → NextFits n → AllByRecursion KindFits (with_held n ts)
     go (Ok (next_is.Token t)) f = (f, a)
     go (Ok (next_is.End p)) f = tt
     go (Err e) f = tt

@@ -6,16 +6,16 @@ use Rattle.token.specs.declared.refusal.NothingLeft.{NothingLeft}
 use Rattle.token.specs.declared.token.Ending.{Ending}
 use Rattle.token.specs.declared.token.Ending.TheVariants as ending_is
 use Rattle.token.specs.declared.token.Fault.{Fault}
-use Rattle.token.specs.declared.token.Upcoming.{Upcoming}
-use Rattle.token.specs.declared.token.Upcoming.TheVariants as next_is
+use Rattle.token.specs.declared.token.Next.{Next}
+use Rattle.token.specs.declared.token.Next.TheVariants as next_is
 use Rattle.token.specs.declared.token.Token.{Token}
 
-abbrev pub at_ending : Ending → Result (Upcoming Token) Fault
+abbrev pub at_ending : Ending → Result Next Fault
 at_ending (ending_is.End p) = Ok (next_is.End p)
 at_ending (ending_is.Fault f) = Err f
 
 -- what a look answers: the first token, or else the ending
-abbrev pub looked : List Token → Ending → Result (Upcoming Token) Fault
+abbrev pub looked : List Token → Ending → Result Next Fault
 looked [] e = at_ending e
 looked (t ∷ ts) e = Ok (next_is.Token t)
 
@@ -40,7 +40,7 @@ SameIfNone [] s s' = s ≡ s'
 SameIfNone (t ∷ ts) s s' = Unit {0}
 
 -- no token comes next, but the ending at that place
-abbrev pub EndsAt : Result (Upcoming Token) Fault → NothingLeft → Type 0
+abbrev pub EndsAt : Result Next Fault → NothingLeft → Type 0
 EndsAt (Ok (next_is.Token t)) r = ⊥
 EndsAt (Ok (next_is.End p)) r = r.place ≡ p
 EndsAt (Err f) r = r.place ≡ f.place

@@ -7,7 +7,7 @@ ghost use Rattle.tokens.specs.Sources.{looked, taken, told, left, SameIfNone, En
 ghost use Rattle.lexer.specs.Parts.{part_of};
 ghost use Rattle.token.specs.declared.token.Token.{Token as TokenOf};
 ghost use Rattle.token.specs.declared.token.Ending.{Ending as EndingOf};
-ghost use Rattle.token.specs.declared.token.Upcoming.TheVariants as next_is;
+ghost use Rattle.token.specs.declared.token.Next.TheVariants as next_is;
 
 use token::{Fault, Next, NothingLeft, Token};
 
